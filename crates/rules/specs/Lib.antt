@@ -1,0 +1,9 @@
+pub mod Paper
+pub mod Keys
+pub mod Words
+pub mod Addresses
+pub mod References
+pub mod Registers
+pub mod Others
+pub mod Refusals
+pub mod Step

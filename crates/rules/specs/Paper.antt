@@ -1,0 +1,38 @@
+-- An answer in document 01's own terms: its letter, its values, and for a refusal its number.
+use Prim.Native.Nat.{ℕ}
+use mathlib.Core.Bool.{Bool}
+use Rattle.rules.specs.declared.Answer.{Answer}
+use Rattle.rules.specs.declared.Answer.the-variants.{Granted, Aborted, Word, Done, Refused}
+use Rattle.rules.specs.declared.Refusal.{Refusal}
+use Rattle.rules.specs.declared.Refusal.the-variants.{Store, Mode, Space, Access, Phase, High, Odd, NoRegister, BadChange, Full, Kind, Cut, Long}
+
+-- G byte trap; A non-resident length read-only; R word; D done; X number
+pub data Paper : Type 0 where
+  G : ℕ → Bool → Paper
+  A : Bool → Bool → Bool → Paper
+  R : ℕ → Paper
+  D : Paper
+  X : ℕ → Paper
+
+-- 01, "When the beam won't balance"
+abbrev pub number : Refusal → ℕ
+number Store = 1
+number Mode = 2
+number Space = 3
+number Access = 4
+number Phase = 5
+number High = 6
+number Odd = 7
+number NoRegister = 8
+number BadChange = 9
+number Full = 10
+number Kind = 11
+number Cut = 12
+number Long = 13
+
+abbrev pub paper : Answer → Paper
+paper (Granted byte trap) = G byte trap
+paper (Aborted nonresident length readonly) = A nonresident length readonly
+paper (Word w) = R w
+paper Done = D
+paper (Refused r) = X (number r)

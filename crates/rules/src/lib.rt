@@ -1,0 +1,62 @@
+// The types of document 01. What they mean is in specs/.
+
+// A reference (01, "A reference"). The numbers are as the caller gives them; rules and refusals judge them.
+pub struct Reference {
+    pub mode: u32,
+    pub space: u32,
+    pub access: u32,
+    pub phase: u32,
+    pub va: u16,
+}
+
+// Everything that can happen to the unit.
+pub enum Event {
+    Refer(Reference),
+    Read { address: u32 },
+    Write { address: u32, value: u16 },
+    Instruction { va: u16 },
+    Interrupt { vector: u16 },
+    Change { register: u32, amount: i32 },
+    Init,
+}
+
+// What is refused, in the order of 01's table: 1 to 13.
+pub enum Refusal {
+    Store,
+    Mode,
+    Space,
+    Access,
+    Phase,
+    High,
+    Odd,
+    NoRegister,
+    BadChange,
+    Full,
+    Kind,
+    Cut,
+    Long,
+}
+
+// What the unit answers.
+pub enum Answer {
+    Granted {
+        byte: u32,
+        trap: bool,
+    },
+    Aborted {
+        nonresident: bool,
+        length: bool,
+        readonly: bool,
+    },
+    Word(u16),
+    Done,
+    Refused(Refusal),
+}
+
+// What a page's key allows, and on which access its trap condition holds (Table 2-2).
+pub struct Right {
+    pub read: bool,
+    pub write: bool,
+    pub readtrap: bool,
+    pub writetrap: bool,
+}
