@@ -1,0 +1,6 @@
+pub mod Some
+pub mod Widens
+pub mod Reaches
+pub mod Runs
+pub mod Demand
+pub mod Example
