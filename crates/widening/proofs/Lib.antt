@@ -1,2 +1,4 @@
 pub mod Example
 pub mod Fields
+pub mod Wider
+pub mod Stays
