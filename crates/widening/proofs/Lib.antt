@@ -2,3 +2,4 @@ pub mod Example
 pub mod Fields
 pub mod Wider
 pub mod Stays
+pub mod Writes

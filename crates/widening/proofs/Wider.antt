@@ -48,7 +48,7 @@ same-wider par pdr par' pdr' b f r =
       writable = λ w. rw (f .key) w;
     }
 
-page-trans : {par pdr par' pdr' par'' pdr'' : ℕ} → PageWider par pdr par' pdr' → PageWider par' pdr' par'' pdr'' → PageWider par pdr par'' pdr''
+pub page-trans : {par pdr par' pdr' par'' pdr'' : ℕ} → PageWider par pdr par' pdr' → PageWider par' pdr' par'' pdr'' → PageWider par pdr par'' pdr''
 page-trans {par} {pdr} {par'} {pdr'} {par''} {pdr''} h k =
     record {
       base = k .base ∙ h .base;
