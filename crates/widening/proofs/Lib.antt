@@ -3,3 +3,4 @@ pub mod Fields
 pub mod Wider
 pub mod Stays
 pub mod Writes
+pub mod Steps
