@@ -4,3 +4,4 @@ pub mod Wider
 pub mod Stays
 pub mod Writes
 pub mod Steps
+pub mod Grants

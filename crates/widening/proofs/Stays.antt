@@ -83,6 +83,19 @@ set-sr0 : (l : List ℕ) (sr0 flags loaded : ℕ) → length l ≡ 100 → sr0 %
 set-sr0 l sr0 flags loaded whole low f d =
     set-status l SR0 (sr0After sr0 flags loaded) (omega arith) (omega arith) whole (λ e. sr0-low sr0 flags loaded f d ∙ low)
 
+-- rule 3 finds one of the 48 pages
+first-small : (x y : Bool) → cond x 0 (cond y 16 32) ≤ 32
+first-small true y = omega arith
+first-small false true = omega arith
+first-small false false = omega arith
+
+bit-small : (x : Bool) → bit x ≤ 1
+bit-small true = omega arith
+bit-small false = omega arith
+
+pub place-small : (mode : ℕ) (d : Bool) (va : ℕ) → placeOf mode d va < 48
+place-small mode d va = omega (arith, first-small (eqb mode 0) (eqb mode 1), bit-small d)
+
 module _ (l : List ℕ) (whole : length l ≡ 100) where
   ruled-same : (page : ℕ) (write : Bool) (loaded va : ℕ) → page < 48 → loaded % 2 ≡ 0 → SameMap l (ruled l page write loaded va .1)
   unfolding ruled
@@ -97,18 +110,6 @@ module _ (l : List ℕ) (whole : length l ≡ 100) where
       rw cond-last
       (same-either l (aborts pdr write va) _ _ (set-sr0 l (word l SR0) flags loaded whole refl (omega arith) even)
       (same-trans l m _ s (set-sr0 m (word l SR0) trap loaded (s .size ∙ whole) (sym (s .sr0)) (omega arith) even)))
-
-  first-small : (x y : Bool) → cond x 0 (cond y 16 32) ≤ 32
-  first-small true y = omega arith
-  first-small false true = omega arith
-  first-small false false = omega arith
-
-  bit-small : (x : Bool) → bit x ≤ 1
-  bit-small true = omega arith
-  bit-small false = omega arith
-
-  pub place-small : (mode : ℕ) (d : Bool) (va : ℕ) → placeOf mode d va < 48
-  place-small mode d va = omega (arith, first-small (eqb mode 0) (eqb mode 1), bit-small d)
 
   pub referred-same : (r : Reference) → SameMap l (referred l r .1)
   unfolding referred illegalMode examined
