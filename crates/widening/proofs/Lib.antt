@@ -5,3 +5,4 @@ pub mod Stays
 pub mod Writes
 pub mod Steps
 pub mod Grants
+pub mod Reached

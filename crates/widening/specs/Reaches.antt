@@ -1,6 +1,8 @@
 -- 01: the blocks a mode reaches.
-use Prim.Native.Nat.{ℕ}
-use mathlib.Core.Bool.{Bool, cond, not, _&&_, _||_}
+use Prim.Native.Nat.{ℕ, _+_, _≤_, _<_}
+use mathlib.Core.Path.{_≡_}
+use mathlib.Core.Logic.{_↔_}
+use mathlib.Core.Bool.{Bool, true, cond, not, _&&_, _||_}
 use mathlib.Core.List.{List}
 use lib.Dec.{eqb}
 use Rattle.page.specs.Length.{lengthError}
@@ -41,3 +43,22 @@ shared l block =
 -- no two modes reach a common block
 unfoldable pub apart : List ℕ → Bool
 apart l = not (some (shared l) 0 4096)
+
+-- a mode reaches a block of memory by block b of a page
+pub record Reached (l : List ℕ) (mode block page b : ℕ) : Type 0 where
+  pub legal : isMode mode ≡ true
+  pub first : firstPage mode ≤ page
+  pub last : page < firstPage mode + pagesOf (word l SR3) mode
+  pub within : b < 128
+  pub allowed : allows (word l (PDR page)) b ≡ true
+  pub lies : memoryBlock (word l page) b ≡ block
+
+-- the definitions in the form of a statement: there are a page and a block of it
+abbrev pub ReachesIs : Type 0
+ReachesIs = (l : List ℕ) (mode block : ℕ) → (reaches l mode block ≡ true) ↔ ((page : ℕ) × (b : ℕ) × Reached l mode block page b)
+
+-- and any two modes that reach a block are one
+abbrev pub ApartIs : Type 0
+ApartIs =
+    (l : List ℕ)
+    → (apart l ≡ true) ↔ ((m n block : ℕ) → reaches l m block ≡ true → reaches l n block ≡ true → m ≡ n)
