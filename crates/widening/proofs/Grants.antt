@@ -95,7 +95,7 @@ no-length-error {par} {pdr} {par'} {pdr'} w block h =
     rw (w .ed) (length-kept (eqb (edOf pdr) 0) (lengthOf pdr) (lengthOf pdr') block (w .blocks) h)
 
 -- no flag, taken apart and put together: n non-resident, e a length error, w a write, o read-only
-no-flag : (n e w o : Bool) → (n || e || (w && o)) ≡ false → (n ≡ false) × (e ≡ false) × (w ≡ true → o ≡ false)
+pub no-flag : (n e w o : Bool) → (n || e || (w && o)) ≡ false → (n ≡ false) × (e ≡ false) × (w ≡ true → o ≡ false)
 no-flag true e w o h = absurd (true≢false h)
 no-flag false true w o h = absurd (true≢false h)
 no-flag false false true o h = (refl, refl, λ z. h)

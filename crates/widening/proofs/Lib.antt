@@ -6,3 +6,4 @@ pub mod Writes
 pub mod Steps
 pub mod Grants
 pub mod Reached
+pub mod Demand
