@@ -1,20 +1,28 @@
+-- The example run is permitted and its modes end apart: computed, with an owner named for each block.
+use Prim.Native.Nat.{ℕ}
 use mathlib.Core.Path.{_≡_, refl}
-use mathlib.Core.Bool.{true}
+use mathlib.Core.Bool.{true, cond}
+use lib.Dec.{ltb}
+use Rattle.page.specs.Length.{lengthError}
 use Rattle.rules.specs.Addresses.{registerAt}
 use Rattle.rules.specs.References.{referred, illegalMode, examined, ruled}
 use Rattle.rules.specs.Registers.{writtenAt}
-use Rattle.rules.specs.Others.{noted, started, cleared}
 use Rattle.rules.specs.Refusals.{refusalOf}
 use Rattle.rules.specs.Step.{step, accepted}
-use Rattle.page.specs.Length.{lengthError}
 use Rattle.widening.specs.Widens.{widensAt}
-use Rattle.widening.specs.Runs.{calm, answers, permitted}
-use Rattle.widening.specs.Example.{start, run, answered, Example}
+use Rattle.widening.specs.Runs.{permitted, after}
+use Rattle.widening.specs.Example.{Example, start, run}
+use Rattle.widening.proofs.Owned.{owned, strayMode, strays, stray, owned-apart}
 
-steps : calm start run ≡ true
-unfolding step accepted refusalOf referred illegalMode examined ruled writtenAt noted started cleared lengthError registerAt widensAt permitted
-steps = refl
+abbrev owner : ℕ → ℕ
+owner block = cond (ltb block 0o1000) 0 (cond (ltb block 0o2000) 1 3)
 
-given : answers start run ≡ answered
-unfolding step accepted refusalOf referred illegalMode examined ruled writtenAt noted started cleared lengthError registerAt widensAt permitted
-given = refl
+pub example : Example
+unfolding step accepted refusalOf referred illegalMode examined ruled writtenAt lengthError registerAt widensAt permitted owned strayMode strays stray
+example =
+    record {
+      on = record { whole = refl; relocating = refl };
+      steps = refl;
+      given = refl;
+      parted = owned-apart owner (after start run) refl;
+    }

@@ -1,4 +1,3 @@
-pub mod Example
 pub mod Fields
 pub mod Wider
 pub mod Stays
@@ -7,3 +6,6 @@ pub mod Steps
 pub mod Grants
 pub mod Reached
 pub mod Demand
+pub mod Owned
+pub mod Example
+pub mod Needed

@@ -29,6 +29,13 @@ some-holds f i (suc n) j a b h = at (eqb i j) refl (λ c d. some-holds f (suc i)
     at true e k = rw (eqb-true i j e, h)
     at false e k = let n = eqb-false i j e in rw (k (omega arith) (omega arith), or-true)
 
+pub some-none : (f : ℕ → Bool) (i n j : ℕ) → some f i n ≡ false → i ≤ j → j < i + n → f j ≡ false
+some-none f i n j h a b = at (f j) refl
+  where
+    at : (x : Bool) → f j ≡ x → f j ≡ false
+    at true e = absurd (true≢false (sym (some-holds f i n j a b e) ∙ h))
+    at false e = e
+
 pub reached : (l : List ℕ) (mode block : ℕ) → reaches l mode block ≡ true → (page : ℕ) × (b : ℕ) × Reached l mode block page b
 unfolding reaches pageReaches
 reached l mode block h =
@@ -50,7 +57,7 @@ pub reaches-is : ReachesIs
 reaches-is l mode block = (reached l mode block, λ p. reaching l mode block (p .0) (p .1) (p .2))
 
 -- a mode that reaches is 0, 1 or 3
-by-mode : (P : ℕ → Type 0) → P 0 → P 1 → P 3 → (m : ℕ) → isMode m ≡ true → P m
+pub by-mode : (P : ℕ → Type 0) → P 0 → P 1 → P 3 → (m : ℕ) → isMode m ≡ true → P m
 by-mode P a b c m h = at (eqb m 0) (eqb m 1) (eqb m 3) refl refl refl h
   where
     at : (x y z : Bool) → eqb m 0 ≡ x → eqb m 1 ≡ y → eqb m 3 ≡ z → (x || y || z) ≡ true → P m
@@ -79,11 +86,7 @@ two false false c h p q r = false≢true h
 module _ (l : List ℕ) where
   not-shared : apart l ≡ true → (block : ℕ) → block < 4096 → shared l block ≡ false
   unfolding apart
-  not-shared h block small = at (shared l block) refl
-    where
-      at : (x : Bool) → shared l block ≡ x → shared l block ≡ false
-      at true e = absurd (false≢true (sym (not-true _ h) ∙ some-holds (shared l) 0 4096 block (omega arith) (omega arith) e))
-      at false e = e
+  not-shared h block small = some-none (shared l) 0 4096 block (not-true _ h) (omega arith) (omega arith)
 
   one-mode : apart l ≡ true → (m n block : ℕ) → reaches l m block ≡ true → reaches l n block ≡ true → m ≡ n
   unfolding shared

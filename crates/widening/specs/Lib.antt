@@ -4,3 +4,4 @@ pub mod Reaches
 pub mod Runs
 pub mod Demand
 pub mod Example
+pub mod Needed
