@@ -1,25 +1,24 @@
 -- With relocation on, a reference is granted exactly if it is not refused, its mode is legal and its page does not abort it; a wider map keeps that.
-use mathlib.Core.Path.{_≡_, refl, sym, _∙_, ap}
-use mathlib.Core.Bool.{Bool, true, false, cond, not, _&&_, _||_, false≢true, true≢false}
+use mathlib.Core.Path.{_≡_, refl, sym, _∙_}
+use mathlib.Core.Bool.{Bool, true, false, cond, _&&_, _||_, false≢true, true≢false}
 use mathlib.Core.List.{List}
-use Prim.Native.Nat.{ℕ, _≤_, _<_, _+_, _*_, _%_}
+use Prim.Native.Nat.{ℕ, _≤_}
 use native.Mathlib.Omega.{arith}
 use lib.Dec.{eqb, ltb, leb}
 use lib.ListN.{length}
 use borrow.Author.Tests.{eqb-true, eq-eqb, le-ltb, leb-true, ltb-false}
-use Rattle.page.specs.Fields.{baseOf, lengthOf, edOf, blockOf, offsetOf}
+use Rattle.page.specs.Fields.{lengthOf, edOf, blockOf}
 use Rattle.page.specs.Length.{lengthError}
 use Rattle.page.specs.Sum.{byteOf}
 use Rattle.rules.specs.Paper.{Paper, G, A, X}
-use Rattle.rules.specs.Keys.{keyOf, nonResident, readOnly}
+use Rattle.rules.specs.Keys.{keyOf, readOnly}
 use Rattle.rules.specs.Words.{word, PDR, SR0, SR3, relocates}
 use Rattle.rules.specs.References.{referred, illegalMode, examined, ruled, placeOf, usesD, aborts, traps, nonResidentFlag, readOnlyFlag, flatByte}
 use Rattle.rules.specs.Refusals.{refusalOf, lowest, ofReference}
 use Rattle.rules.specs.Step.{step, accepted}
 use Rattle.rules.specs.declared.Reference.{Reference}
 use Rattle.rules.specs.declared.Event.the-variants.{Refer}
-use Rattle.widening.specs.Widens.{keepsBlocks}
-use Rattle.widening.specs.Demand.{On, Granted, inPhase}
+use Rattle.widening.specs.LastMap.{On, Granted, inPhase}
 use Rattle.widening.proofs.Wider.{PageWider, Wider}
 use Rattle.widening.proofs.Stays.{place-small}
 
@@ -80,9 +79,10 @@ module _ (l : List ℕ) (r : Reference) where
 
   pub granted-of : On l → (byte : ℕ) → Grant l r byte → Granted l r byte
   unfolding page answer
-  granted-of o byte g =
-      (traps (word l SR0) (word l (PDR page)) (eqb (r .access) 1),
-      answered ∙ rw (refusal-of (o .whole), g .accepts, o .relocating, g .legal, g .free, g .lies))
+  granted-of o byte g = (
+    traps (word l SR0) (word l (PDR page)) (eqb (r .access) 1),
+    answered ∙ rw (refusal-of (o .whole), g .accepts, o .relocating, g .legal, g .free, g .lies),
+  )
 
 -- the length test over its direction: n a block of no length error
 length-kept : (b : Bool) (x y n : ℕ) → cond b (leb x y) (leb y x) ≡ true → cond b (ltb x n) (ltb n x) ≡ false → cond b (ltb y n) (ltb n y) ≡ false

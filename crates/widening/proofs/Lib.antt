@@ -5,7 +5,7 @@ pub mod Writes
 pub mod Steps
 pub mod Grants
 pub mod Reached
-pub mod Demand
+pub mod LastMap
 pub mod Owned
 pub mod Example
 pub mod Needed

@@ -1,13 +1,13 @@
 -- Each premise of demand 3 is needed: the definitions compute the table, with an owner named for each block of a last map.
 use Prim.Native.Nat.{ℕ}
-use mathlib.Core.Path.{_≡_, refl, sym, _∙_, ap}
+use mathlib.Core.Path.{_≡_, refl, sym}
 use mathlib.Core.Bool.{Bool, true, false, cond, not, _&&_, _||_, and-true, and-assoc}
-use mathlib.Core.List.{List, [], _∷_}
+use mathlib.Core.List.{List}
 use lib.Dec.{ltb, eqb}
 use Rattle.page.specs.Fields.{edOf}
 use Rattle.page.specs.Length.{lengthError}
 use Rattle.rules.specs.Keys.{keyOf, nonResident}
-use Rattle.rules.specs.Words.{word, PDR, SR3}
+use Rattle.rules.specs.Words.{word, PDR}
 use Rattle.rules.specs.Addresses.{registerAt}
 use Rattle.rules.specs.References.{referred, illegalMode, examined, ruled}
 use Rattle.rules.specs.Registers.{writtenAt}
@@ -16,9 +16,9 @@ use Rattle.rules.specs.Refusals.{refusalOf}
 use Rattle.rules.specs.Step.{step, accepted}
 use Rattle.rules.specs.declared.Event.{Event}
 use Rattle.rules.specs.declared.Event.the-variants.{Refer, Read, Write, Instruction, Interrupt, Change, Init}
-use Rattle.widening.specs.Widens.{widens, widensAt, widensPar, keepsBlocks, keepsRights}
-use Rattle.widening.specs.Runs.{permitted, isInit, placeWritten, leavesOn}
-use Rattle.widening.specs.Needed.{LosesGrant, SharesByte, sharing, last, PremisesAre, premises, pagePremises, widenings, every}
+use Rattle.widening.specs.Widens.{widens, widensAt, widensPar, widensPdr, keepsBlocks, keepsRights}
+use Rattle.widening.specs.Runs.{permitted}
+use Rattle.widening.specs.Needed.{LosesGrant, SharesByte, sharing, PremisesAre, pagePremises, every}
 use Rattle.widening.proofs.Owned.{owned, strayMode, strays, stray, owned-apart}
 
 -- widening, test by test: x and y a PAR, a PDR; n the old key non-resident; p, e, b, k the tests of PAR, ED, length and rights
@@ -33,7 +33,7 @@ tests false true false p true false k = refl
 tests false true false p false b k = refl
 
 widens-tests : (l : List ℕ) (e : Event) → widens l e ≡ every (pagePremises l e)
-unfolding widensAt
+unfolding widensAt widensPdr
 widens-tests l (Refer r) = refl
 widens-tests l (Read address) = refl
 widens-tests l (Write address value) =
@@ -48,10 +48,10 @@ widens-tests l Init = refl
 
 pub premisesAre : PremisesAre
 unfolding permitted
-premisesAre l e = rw (widens-tests l e, and-assoc, and-assoc)
+premisesAre l e = rw (widens-tests l e) (simp and-assoc)
 
 pub losesGrant : LosesGrant
-unfolding step accepted refusalOf referred illegalMode examined ruled writtenAt cleared lengthError registerAt
+unfolding step accepted refusalOf referred illegalMode examined ruled writtenAt cleared lengthError registerAt widensPar
 losesGrant = refl
 
 -- User below, Kernel above a block; and the other way round
@@ -63,13 +63,36 @@ kernelBelow n block = cond (ltb block n) 0 3
 
 pub sharesByte : SharesByte sharing
 unfolding step accepted refusalOf referred illegalMode examined ruled writtenAt cleared lengthError registerAt owned strayMode strays stray userBelow kernelBelow
-sharesByte =
-    (refl, owned-apart (userBelow 64) _ refl,
-    (refl, owned-apart (kernelBelow 512) _ refl,
-    (refl, owned-apart (kernelBelow 512) _ refl,
-    (refl, owned-apart (kernelBelow 512) _ refl,
-    (refl, owned-apart (userBelow 192) _ refl,
-    (refl, owned-apart (userBelow 96) _ refl,
-    (refl, owned-apart (kernelBelow 66) _ refl,
-    (refl, owned-apart (userBelow 68) _ refl,
-    (refl, owned-apart (userBelow 192) _ refl, tt)))))))))
+sharesByte = (
+  refl,
+  owned-apart (userBelow 64) _ refl,
+  (
+    refl,
+    owned-apart (kernelBelow 512) _ refl,
+    (
+      refl,
+      owned-apart (kernelBelow 512) _ refl,
+      (
+        refl,
+        owned-apart (kernelBelow 512) _ refl,
+        (
+          refl,
+          owned-apart (userBelow 192) _ refl,
+          (
+            refl,
+            owned-apart (userBelow 96) _ refl,
+            (
+              refl,
+              owned-apart (kernelBelow 66) _ refl,
+              (
+                refl,
+                owned-apart (userBelow 68) _ refl,
+                (refl, owned-apart (userBelow 192) _ refl, tt),
+              ),
+            ),
+          ),
+        ),
+      ),
+    ),
+  ),
+)

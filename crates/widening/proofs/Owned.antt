@@ -48,7 +48,7 @@ module _ (owner : ℕ → ℕ) where
       let s = and-eq-true-iff (not (strayMode l 0) && not (strayMode l 1)) (not (strayMode l 3)) .0 h in
       let t = and-eq-true-iff (not (strayMode l 0)) (not (strayMode l 1)) .0 (s .0) in
       let each : (m block : ℕ) → reaches l m block ≡ true → owner block ≡ m =
-              λ m block r.
-                  by-mode (λ (n : ℕ). reaches l n block ≡ true → owner block ≡ n) (owns l 0 block (not-true _ (t .0))) (owns l 1 block (not-true _ (t .1)))
-                  (owns l 3 block (not-true _ (s .1))) m (reached l m block r .2 .legal) r in
+      λ m block r.
+      by-mode (λ (n : ℕ). reaches l n block ≡ true → owner block ≡ n) (owns l 0 block (not-true _ (t .0))) (owns l 1 block (not-true _ (t .1)))
+      (owns l 3 block (not-true _ (s .1))) m (reached l m block r .2 .legal) r in
       apart-is l .1 (λ m n block p q. sym (each m block p) ∙ each n block q)

@@ -1,20 +1,20 @@
 -- An event that is no accepted write and no INIT leaves the map as it was: word by word of the store that it leaves.
 use mathlib.Core.Path.{_≡_, refl, sym, _∙_, ap}
-use mathlib.Core.Bool.{Bool, true, false, cond, _||_}
+use mathlib.Core.Bool.{Bool, true, false, cond}
 use mathlib.Core.List.{List}
-use Prim.Native.Nat.{ℕ, _+_, _*_, _/_, _%_, _≤_, _<_}
+use Prim.Native.Nat.{ℕ, _%_, _≤_, _<_}
 use native.Mathlib.Omega.{arith}
 use lib.Dec.{eqb}
 use lib.Bits.{bitOr}
 use lib.ListN.{length, set, length-set}
 use lib.Seq.{getD-set-same, getD-set-other}
 use borrow.Author.Tests.{eqb-true, eqb-false}
-use Rattle.page.specs.Fields.{blockOf, pageOf}
+use Rattle.page.specs.Fields.{blockOf}
 use Rattle.page.specs.Length.{lengthError}
 use Rattle.page.specs.Sum.{byteOf}
 use Rattle.rules.specs.Paper.{Paper}
-use Rattle.rules.specs.Words.{word, PDR, SR0, SR1, SR2, SR3, bit, relocates, frozen, enablesD}
-use Rattle.rules.specs.References.{referred, illegalMode, examined, ruled, placeOf, firstPage, usesD, details, nonResidentFlag, readOnlyFlag, aborts, condition, traps, marksOf, abortFlags, trapFlag, sr0After}
+use Rattle.rules.specs.Words.{word, PDR, SR0, SR1, SR2, SR3, bit, relocates, frozen}
+use Rattle.rules.specs.References.{referred, illegalMode, examined, ruled, placeOf, usesD, details, nonResidentFlag, readOnlyFlag, aborts, condition, traps, marksOf, abortFlags, trapFlag, sr0After}
 use Rattle.rules.specs.Others.{started, noted, withChange}
 use Rattle.rules.specs.declared.Reference.{Reference}
 use Rattle.widening.proofs.Fields.{SameFields, same-fields, marked, sr0-low}
@@ -84,7 +84,7 @@ set-sr0 l sr0 flags loaded whole low f d =
     set-status l SR0 (sr0After sr0 flags loaded) (omega arith) (omega arith) whole (λ e. sr0-low sr0 flags loaded f d ∙ low)
 
 -- rule 3 finds one of the 48 pages
-first-small : (x y : Bool) → cond x 0 (cond y 16 32) ≤ 32
+pub first-small : (x y : Bool) → cond x 0 (cond y 16 32) ≤ 32
 first-small true y = omega arith
 first-small false true = omega arith
 first-small false false = omega arith

@@ -1,12 +1,12 @@
 -- Every permitted step leaves a map at least as wide, and so does every run of them: by the event, then by induction on the run.
-use mathlib.Core.Path.{_≡_, refl, sym, _∙_, ap}
+use mathlib.Core.Path.{_≡_, refl, sym, _∙_}
 use mathlib.Core.Bool.{Bool, true, false, cond, not, _&&_, _||_, false≢true, and-eq-true-iff}
 use mathlib.Core.List.{List, [], _∷_, _++_}
 use Prim.Native.Nat.{ℕ}
 use native.Mathlib.Omega.{arith}
 use lib.Dec.{eqb, ltb}
 use lib.ListN.{length}
-use borrow.Author.Tests.{eqb-true, not-true}
+use borrow.Author.Tests.{eqb-true}
 use Rattle.rules.specs.Words.{word, SR0, SR3, relocates}
 use Rattle.rules.specs.Addresses.{registerAt, isRegister}
 use Rattle.rules.specs.Refusals.{refusalOf, odd}
@@ -14,9 +14,9 @@ use Rattle.rules.specs.Others.{changeByte}
 use Rattle.rules.specs.Step.{step, accepted}
 use Rattle.rules.specs.declared.Event.{Event}
 use Rattle.rules.specs.declared.Event.the-variants.{Refer, Read, Write, Instruction, Interrupt, Change, Init}
-use Rattle.widening.specs.Widens.{widens, widensAt}
-use Rattle.widening.specs.Runs.{after, calm, permitted, isInit, placeWritten, leavesOn}
-use Rattle.widening.specs.Demand.{On}
+use Rattle.widening.specs.Widens.{widens}
+use Rattle.widening.specs.Runs.{after, calm, permitted, isInit, placeWritten}
+use Rattle.widening.specs.LastMap.{On}
 use Rattle.widening.proofs.Wider.{Wider, same-map, wider-trans}
 use Rattle.widening.proofs.Stays.{same-self, referred-same, started-same, noted-same}
 use Rattle.widening.proofs.Writes.{written-wider}
@@ -65,7 +65,7 @@ module _ (l : List ℕ) (whole : length l ≡ 100) where
       by : (x : Bool) → eqb (refusalOf l e) 0 ≡ x → Wider l (step l e .1)
       by true z =
           let t = four (isInit e) (eqb (placeWritten e) SR3)
-              (not (ltb (placeWritten e) 100) || relocates (word (accepted l e .1) SR0)) (widens l e) (rw z at h) in
+          (not (ltb (placeWritten e) 100) || relocates (word (accepted l e .1) SR0)) (widens l e) (rw z at h) in
           rw z (accepted-wider e (eqb-true (refusalOf l e) 0 z) (t .0) (t .1) (t .2) (t .3))
       by false z = rw z (same-map l l (same-self l))
 

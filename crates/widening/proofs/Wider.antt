@@ -1,5 +1,5 @@
 -- A map at least as wide as another: what a permitted step, and so a whole run, makes of a map. Reflexive and transitive, field by field.
-use mathlib.Core.Path.{_≡_, refl, sym, _∙_, ap}
+use mathlib.Core.Path.{_≡_, _∙_, ap}
 use mathlib.Core.Bool.{Bool, true, false, cond}
 use mathlib.Core.List.{List}
 use Prim.Native.Nat.{ℕ, _<_, _%_}

@@ -1,22 +1,29 @@
 -- An accepted write that demand 3 permits leaves a map at least as wide: by the register written, PAR and PDR each once over the page number.
-use mathlib.Core.Path.{_≡_, refl, sym, _∙_, ap}
-use mathlib.Core.Bool.{Bool, true, false, cond, not, _&&_, _||_, false≢true, true≢false}
+use mathlib.Core.Path.{_≡_, refl, _∙_}
+use mathlib.Core.Bool.{Bool, true, false, not, _&&_, _||_, false≢true, true≢false}
 use mathlib.Core.List.{List}
-use Prim.Native.Nat.{ℕ, _+_, _-_, _%_, _≤_, _<_}
+use Prim.Native.Nat.{ℕ, _-_, _<_}
 use native.Mathlib.Omega.{arith}
 use lib.Dec.{eqb, ltb}
 use lib.Bits.{bitAnd, bitOr}
 use lib.ListN.{length, set, length-set}
 use lib.Seq.{getD-set-same, getD-set-other}
-use borrow.Author.Tests.{eqb-true, eqb-false, ltb-true, ltb-false, eq-eqb}
+use borrow.Author.Tests.{eqb-true, eqb-false, ltb-true, ltb-false}
 use Rattle.page.specs.Fields.{baseOf, edOf}
 use Rattle.rules.specs.Keys.{keyOf, nonResident, readOnly}
 use Rattle.rules.specs.Words.{word, PDR, SR0, SR3, relocates}
 use Rattle.rules.specs.Registers.{writtenAt}
-use Rattle.widening.specs.Widens.{widensPar, widensPdr, widensAt, keepsBlocks, keepsRights}
-use Rattle.widening.proofs.Fields.{SameFields, same-fields, masked, base-stored}
+use Rattle.widening.specs.Widens.{StoredAlike, widensPar, widensPdr, widensAt, keepsBlocks, keepsRights}
+use Rattle.widening.proofs.Fields.{same-fields, masked, base-stored}
 use Rattle.widening.proofs.Wider.{PageWider, Wider, same-wider, page-trans, same-map}
 use Rattle.widening.proofs.Stays.{same-self}
+
+-- "new" as written and as stored
+pub storedAlike : StoredAlike
+unfolding widensPar widensPdr
+storedAlike pdr old new =
+    let f = masked new 0o077417 refl refl refl in
+    (rw (base-stored new), rw (f .key, f .ed, f .len))
 
 -- the tests of a widening, taken apart: n the old key non-resident; e, b, k the tests of ED, length and rights
 three : (n e b k : Bool) → (n || (e && b && k)) ≡ true → n ≡ false → (e ≡ true) × (b ≡ true) × (k ≡ true)
@@ -40,6 +47,7 @@ rights false false false false f h = (refl, λ g. refl)
 
 -- a PDR that widens, at any PAR of the same twelve bits
 pdr-page : (par par' old new : ℕ) → baseOf par' ≡ baseOf par → widensPdr old new ≡ true → nonResident (keyOf old) ≡ false → PageWider par old par' new
+unfolding widensPdr
 pdr-page par par' old new s w r =
     let t = three (nonResident (keyOf old)) (eqb (edOf new) (edOf old)) (keepsBlocks old new) (keepsRights (keyOf old) (keyOf new)) w r in
     let k = rights (nonResident (keyOf old)) (readOnly (keyOf old)) (nonResident (keyOf new)) (readOnly (keyOf new)) r (t .2) in
@@ -63,19 +71,20 @@ module _ (l : List ℕ) (whole : length l ≡ 100) where
 
   par-wider : (q value : ℕ) → q < 48 → widensPar (word l (PDR q)) (word l q) value ≡ true
       → Wider l (set (set l q (bitAnd value 0o007777)) (PDR q) (bitAnd (word l (PDR q)) 0o177477))
+  unfolding widensPar
   par-wider q value small w =
       let a = bitAnd value 0o007777 in
       let b = bitAnd (word l (PDR q)) 0o177477 in
       let k = set l q a in
       let size = length-set l q a in
       let beyond : (i : ℕ) → (i ≡ q → ⊥) → (i ≡ PDR q → ⊥) → word (set k (PDR q) b) i ≡ word l i =
-              λ i n d. getD-set-other k (PDR q) i b 0 d ∙ getD-set-other l q i a 0 n in
+      λ i n d. getD-set-other k (PDR q) i b 0 d ∙ getD-set-other l q i a 0 n in
       one-page (set k (PDR q) b) q (length-set k (PDR q) b ∙ size) (beyond SR0 (λ e. omega arith) (λ e. omega arith)) (beyond SR3 (λ e. omega arith) (λ e. omega arith))
       (λ r.
-          rw (getD-set-other k (PDR q) q b 0 (λ e. omega arith), getD-set-same l q a 0 (omega arith), getD-set-same k (PDR q) b 0 (omega arith))
-          (same-wider (word l q) (word l (PDR q)) a b
-          (base-stored value ∙ eqb-true (baseOf value) (baseOf (word l q)) (one (nonResident (keyOf (word l (PDR q)))) _ w r))
-          (masked (word l (PDR q)) 0o177477 refl refl refl) r))
+      rw (getD-set-other k (PDR q) q b 0 (λ e. omega arith), getD-set-same l q a 0 (omega arith), getD-set-same k (PDR q) b 0 (omega arith))
+      (same-wider (word l q) (word l (PDR q)) a b
+      (base-stored value ∙ eqb-true (baseOf value) (baseOf (word l q)) (one (nonResident (keyOf (word l (PDR q)))) _ w r))
+      (masked (word l (PDR q)) 0o177477 refl refl refl) r))
       (λ p s n. (beyond p n (λ e. omega arith), beyond (PDR p) (λ e. omega arith) (λ e. n (omega arith))))
 
   pdr-wider : (q value : ℕ) → q < 48 → widensPdr (word l (PDR q)) value ≡ true → Wider l (set l (PDR q) (bitAnd value 0o077417))
@@ -84,9 +93,9 @@ module _ (l : List ℕ) (whole : length l ≡ 100) where
       let beyond : (i : ℕ) → (i ≡ PDR q → ⊥) → word (set l (PDR q) b) i ≡ word l i = λ i n. getD-set-other l (PDR q) i b 0 n in
       one-page (set l (PDR q) b) q (length-set l (PDR q) b) (beyond SR0 (λ e. omega arith)) (beyond SR3 (λ e. omega arith))
       (λ r.
-          rw (getD-set-other l (PDR q) q b 0 (λ e. omega arith), getD-set-same l (PDR q) b 0 (omega arith))
-          (let h = pdr-page (word l q) (word l q) (word l (PDR q)) value refl w r in
-          page-trans h (same-wider (word l q) value (word l q) b refl (masked value 0o077417 refl refl refl) (h .resident))))
+      rw (getD-set-other l (PDR q) q b 0 (λ e. omega arith), getD-set-same l (PDR q) b 0 (omega arith))
+      (let h = pdr-page (word l q) (word l q) (word l (PDR q)) value refl w r in
+      page-trans h (same-wider (word l q) value (word l q) b refl (masked value 0o077417 refl refl refl) (h .resident))))
       (λ p s n. (beyond p (λ e. omega arith), beyond (PDR p) (λ e. n (omega arith))))
 
   sr0-wider : (v : ℕ) → relocates v ≡ true → Wider l (set l SR0 v)

@@ -2,6 +2,6 @@ pub mod Some
 pub mod Widens
 pub mod Reaches
 pub mod Runs
-pub mod Demand
+pub mod LastMap
 pub mod Example
 pub mod Needed

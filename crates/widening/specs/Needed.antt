@@ -80,30 +80,46 @@ withD l = mapping 8 0o1000 0o077406 (set l SR3 0o000004)
 abbrev pub sharing : List (Line × Event)
 sharing =
     -- relocation off at first, then on
-    (line 0 (holding 0 0o100 0o077406 0 0o000406) (refer 0 0 1 0o000017) 0o000017 (Write 0o777572 0o000001) (G 0o010017 false),
-    refer 3 0 1 0o000017)
+    (
+      line 0 (holding 0 0o100 0o077406 0 0o000406) (refer 0 0 1 0o000017) 0o000017 (Write 0o777572 0o000001) (G 0o010017 false),
+      refer 3 0 1 0o000017,
+    )
     -- INIT
     ∷ (line 1 (holding 1 0o100 0o077406 0o1000 0o077406) (refer 0 0 1 0o000217) 0o010217 Init (G 0o000217 false), refer 3 0 1 0o010217)
     -- a write to SR3
-    ∷ (line 2 (withD (holding 1 0o100 0o077406 0o1000 0o077406)) (refer 0 1 1 0o000217) 0o100217 (Write 0o772516 0) (G 0o010217 false),
-    refer 3 1 1 0o000217)
+    ∷ (
+      line 2 (withD (holding 1 0o100 0o077406 0o1000 0o077406)) (refer 0 1 1 0o000217) 0o100217 (Write 0o772516 0) (G 0o010217 false),
+      refer 3 1 1 0o000217,
+    )
     -- a write that turns relocation off
-    ∷ (line 3 (holding 1 0o100 0o077406 0o1000 0o077406) (refer 0 0 1 0o000217) 0o010217 (Write 0o777572 0) (G 0o000217 false),
-    refer 3 0 1 0o010217)
+    ∷ (
+      line 3 (holding 1 0o100 0o077406 0o1000 0o077406) (refer 0 0 1 0o000217) 0o010217 (Write 0o777572 0) (G 0o000217 false),
+      refer 3 0 1 0o010217,
+    )
     -- another PAR at a resident page
-    ∷ (line 4 (holding 1 0o100 0o077406 0o100 0o077406) (refer 0 0 1 0o000217) 0o010217 (Write 0o772340 0o300) (G 0o030217 false),
-    refer 3 0 1 0o000217)
+    ∷ (
+      line 4 (holding 1 0o100 0o077406 0o100 0o077406) (refer 0 0 1 0o000217) 0o010217 (Write 0o772340 0o300) (G 0o030217 false),
+      refer 3 0 1 0o000217,
+    )
     -- ED 0 becomes 1
-    ∷ (line 5 (holding 1 0o100 0o077406 0o100 0o017406) (refer 0 0 1 0o000217) 0o010217 (Write 0o772300 0o077416) (A false true false),
-    refer 3 0 1 0o000217)
+    ∷ (
+      line 5 (holding 1 0o100 0o077406 0o100 0o017406) (refer 0 0 1 0o000217) 0o010217 (Write 0o772300 0o077416) (A false true false),
+      refer 3 0 1 0o000217,
+    )
     -- ED 0, a smaller length; ED 1, a larger one
-    ∷ (line 6 (holding 1 0o100 0o077406 0o102 0o017406) (refer 0 0 1 0o000217) 0o010217 (Write 0o772300 0o000406) (A false true false),
-    refer 3 0 1 0o000017)
-    ∷ (line 6 (holding 1 0o100 0o000016 0o100 0o001406) (refer 0 0 1 0o000217) 0o010217 (Write 0o772300 0o002016) (A false true false),
-    refer 3 0 1 0o000217)
+    ∷ (
+      line 6 (holding 1 0o100 0o077406 0o102 0o017406) (refer 0 0 1 0o000217) 0o010217 (Write 0o772300 0o000406) (A false true false),
+      refer 3 0 1 0o000017,
+    )
+    ∷ (
+      line 6 (holding 1 0o100 0o000016 0o100 0o001406) (refer 0 0 1 0o000217) 0o010217 (Write 0o772300 0o002016) (A false true false),
+      refer 3 0 1 0o000217,
+    )
     -- key 6 becomes 0
-    ∷ (line 7 (holding 1 0o100 0o077406 0o100 0o077406) (refer 0 0 1 0o000217) 0o010217 (Write 0o772300 0o077400) (A true false false),
-    refer 3 0 1 0o000217)
+    ∷ (
+      line 7 (holding 1 0o100 0o077406 0o100 0o077406) (refer 0 0 1 0o000217) 0o010217 (Write 0o772300 0o077400) (A true false false),
+      refer 3 0 1 0o000217,
+    )
     ∷ []
 
 -- key 6 becomes 2: a write is lost, and what is reached stays

@@ -1,8 +1,10 @@
--- 01, "Widening": the page writes that widen. "New" is the value written; the PAR or PDR as stored has the same fields.
-use Prim.Native.Nat.{ℕ, _-_}
+-- 01, "Widening": the page writes that widen. "New" is the value written; to take it as it is stored gives the same.
+use Prim.Native.Nat.{ℕ}
+use mathlib.Core.Path.{_≡_}
 use mathlib.Core.Bool.{Bool, true, cond, not, _&&_, _||_}
 use mathlib.Core.List.{List}
 use lib.Dec.{leb, ltb, eqb}
+use lib.Bits.{bitAnd}
 use Rattle.page.specs.Fields.{baseOf, lengthOf, edOf}
 use Rattle.rules.specs.Keys.{keyOf, nonResident, readOnly}
 use Rattle.rules.specs.Words.{word, PDR}
@@ -26,14 +28,20 @@ abbrev pub keepsBlocks : ℕ → ℕ → Bool
 keepsBlocks old new = cond (eqb (edOf old) 0) (leb (lengthOf old) (lengthOf new)) (leb (lengthOf new) (lengthOf old))
 
 -- a PAR write, given the page's PDR: its key is 0, 3 or 7, or the twelve bits stay
-abbrev pub widensPar : ℕ → ℕ → ℕ → Bool
+unfoldable pub widensPar : ℕ → ℕ → ℕ → Bool
 widensPar pdr old new = nonResident (keyOf pdr) || eqb (baseOf new) (baseOf old)
 
 -- a PDR write: the old key is 0, 3 or 7; or ED stays, the length allows no fewer blocks, and the new key has at least the old rights
-abbrev pub widensPdr : ℕ → ℕ → Bool
+unfoldable pub widensPdr : ℕ → ℕ → Bool
 widensPdr old new =
     nonResident (keyOf old)
     || (eqb (edOf new) (edOf old) && keepsBlocks old new && keepsRights (keyOf old) (keyOf new))
+
+-- a PAR write stores 007777 of the value, a PDR write 077417
+abbrev pub StoredAlike : Type 0
+StoredAlike =
+    (pdr old new : ℕ)
+    → (widensPar pdr old (bitAnd new 0o007777) ≡ widensPar pdr old new) × (widensPdr old (bitAnd new 0o077417) ≡ widensPdr old new)
 
 -- a write at a place of the store: of a page, it widens; SR0 to SR3 are no page's
 unfoldable pub widensAt : List ℕ → ℕ → ℕ → Bool

@@ -1,26 +1,25 @@
 -- Demand 3: from the wider map that a run leaves, and from the page and block by which a mode reaches.
-use mathlib.Core.Path.{_≡_, refl, sym, _∙_, ap}
-use mathlib.Core.Bool.{Bool, true, false, cond, not, _&&_, false≢true, and-eq-true-iff}
+use mathlib.Core.Path.{_≡_, refl}
+use mathlib.Core.Bool.{Bool, true, false, cond, not, _&&_, and-eq-true-iff}
 use mathlib.Core.List.{List, _++_}
-use Prim.Native.Nat.{ℕ, zero, suc, _+_, _*_, _/_, _%_, _≤_, _<_}
+use Prim.Native.Nat.{ℕ, zero, suc, _+_, _*_, _/_, _≤_, _<_}
 use native.Mathlib.Omega.{arith}
 use lib.Dec.{eqb, ltb}
 use borrow.Author.Tests.{eqb-false, ltb-false, not-true}
 use Rattle.page.specs.Fields.{blockOf, pageOf}
 use Rattle.page.specs.Length.{lengthError}
-use Rattle.page.specs.Sum.{memoryBlock, byteOf}
 use Rattle.rules.specs.Keys.{keyOf, nonResident, readOnly}
 use Rattle.rules.specs.Words.{word, PDR, SR3, bit, enablesD}
-use Rattle.rules.specs.References.{firstPage, usesD, nonResidentFlag}
+use Rattle.rules.specs.References.{nonResidentFlag}
 use Rattle.rules.specs.declared.Reference.{Reference}
 use Rattle.rules.specs.declared.Event.{Event}
-use Rattle.widening.specs.Reaches.{allows, isMode, pagesOf, reaches, apart, Reached}
+use Rattle.widening.specs.Reaches.{isMode, reaches}
 use Rattle.widening.specs.Runs.{after, calm}
-use Rattle.widening.specs.Demand.{On, Granted, Kept, GrantsReached, ReachGrows, NeverShared, StaysOn}
+use Rattle.widening.specs.LastMap.{On, Granted, Kept, GrantsReached, ReachGrows, NeverShared, StaysOn}
 use Rattle.widening.proofs.Wider.{Wider}
-use Rattle.widening.proofs.Stays.{place-small}
-use Rattle.widening.proofs.Steps.{run-wider, calm-append, after-append, stays-on, later-wider}
-use Rattle.widening.proofs.Grants.{Grant, grant-of, granted-of, grant-kept, no-flag, no-length-error, pageFor}
+use Rattle.widening.proofs.Stays.{first-small}
+use Rattle.widening.proofs.Steps.{calm-append, stays-on, later-wider}
+use Rattle.widening.proofs.Grants.{grant-of, granted-of, grant-kept, no-flag, no-length-error, pageFor}
 use Rattle.widening.proofs.Reached.{reached, reaching, apart-is}
 
 pub staysOn : StaysOn
@@ -68,11 +67,6 @@ grantsReached l o r byte given =
       allowed = rw (t .0, t .1);
       lies = rw (g .lies) (omega arith);
     })
-
-first-small : (x y : Bool) → cond x 0 (cond y 16 32) ≤ 32
-first-small true y = omega arith
-first-small false true = omega arith
-first-small false false = omega arith
 
 pages-small : (x : Bool) → cond x 16 8 ≤ 16
 pages-small true = omega arith
