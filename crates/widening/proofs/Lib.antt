@@ -8,4 +8,5 @@ pub mod Reached
 pub mod LastMap
 pub mod Owned
 pub mod Example
+pub mod Premises
 pub mod Needed

@@ -1,98 +1,32 @@
--- Each premise of demand 3 is needed: the definitions compute the table, with an owner named for each block of a last map.
+-- Each premise of demand 3 is needed: the definitions compute the table, and an owner is named for each block of a last map.
 use Prim.Native.Nat.{ℕ}
-use mathlib.Core.Path.{_≡_, refl, sym}
-use mathlib.Core.Bool.{Bool, true, false, cond, not, _&&_, _||_, and-true, and-assoc}
-use mathlib.Core.List.{List}
-use lib.Dec.{ltb, eqb}
-use Rattle.page.specs.Fields.{edOf}
+use mathlib.Core.Path.{refl}
+use mathlib.Core.Bool.{cond}
+use mathlib.Core.List.{List, [], _∷_}
+use lib.Dec.{ltb}
 use Rattle.page.specs.Length.{lengthError}
-use Rattle.rules.specs.Keys.{keyOf, nonResident}
-use Rattle.rules.specs.Words.{word, PDR}
 use Rattle.rules.specs.Addresses.{registerAt}
 use Rattle.rules.specs.References.{referred, illegalMode, examined, ruled}
 use Rattle.rules.specs.Registers.{writtenAt}
 use Rattle.rules.specs.Others.{cleared}
 use Rattle.rules.specs.Refusals.{refusalOf}
 use Rattle.rules.specs.Step.{step, accepted}
-use Rattle.rules.specs.declared.Event.{Event}
-use Rattle.rules.specs.declared.Event.the-variants.{Refer, Read, Write, Instruction, Interrupt, Change, Init}
-use Rattle.widening.specs.Widens.{widens, widensAt, widensPar, widensPdr, keepsBlocks, keepsRights}
-use Rattle.widening.specs.Runs.{permitted}
-use Rattle.widening.specs.Needed.{LosesGrant, SharesByte, sharing, PremisesAre, pagePremises, every}
-use Rattle.widening.proofs.Owned.{owned, strayMode, strays, stray, owned-apart}
+use Rattle.widening.specs.Widens.{widensPar}
+use Rattle.widening.specs.Needed.{Needed, lasts}
+use Rattle.widening.proofs.Owned.{allOwned, owned, strayMode, strays, stray, all-apart}
 
--- widening, test by test: x and y a PAR, a PDR; n the old key non-resident; p, e, b, k the tests of PAR, ED, length and rights
-tests : (x y n p e b k : Bool)
-    → cond x p (cond y (n || (e && b && k)) true)
-    ≡ ((not x || p) && ((not (not x && y) || n || e) && ((not (not x && y) || n || b) && ((not (not x && y) || n || k) && true))))
-tests true y n p e b k = sym (and-true p)
-tests false false n p e b k = refl
-tests false true true p e b k = refl
-tests false true false p true true k = sym (and-true k)
-tests false true false p true false k = refl
-tests false true false p false b k = refl
-
-widens-tests : (l : List ℕ) (e : Event) → widens l e ≡ every (pagePremises l e)
-unfolding widensAt widensPdr
-widens-tests l (Refer r) = refl
-widens-tests l (Read address) = refl
-widens-tests l (Write address value) =
-    let place = registerAt address in
-    let old = word l place in
-    tests (ltb place 48) (ltb place 96) (nonResident (keyOf old)) (widensPar (word l (PDR place)) old value) (eqb (edOf value) (edOf old))
-    (keepsBlocks old value) (keepsRights (keyOf old) (keyOf value))
-widens-tests l (Instruction va) = refl
-widens-tests l (Interrupt vector) = refl
-widens-tests l (Change register amount) = refl
-widens-tests l Init = refl
-
-pub premisesAre : PremisesAre
-unfolding permitted
-premisesAre l e = rw (widens-tests l e) (simp and-assoc)
-
-pub losesGrant : LosesGrant
-unfolding step accepted refusalOf referred illegalMode examined ruled writtenAt cleared lengthError registerAt widensPar
-losesGrant = refl
-
--- User below, Kernel above a block; and the other way round
-userBelow : ℕ → ℕ → ℕ
+-- User's blocks lie below block n and Kernel's from there up; and the other way round
+abbrev userBelow : ℕ → ℕ → ℕ
 userBelow n block = cond (ltb block n) 3 0
 
-kernelBelow : ℕ → ℕ → ℕ
+abbrev kernelBelow : ℕ → ℕ → ℕ
 kernelBelow n block = cond (ltb block n) 0 3
 
-pub sharesByte : SharesByte sharing
-unfolding step accepted refusalOf referred illegalMode examined ruled writtenAt cleared lengthError registerAt owned strayMode strays stray userBelow kernelBelow
-sharesByte = (
-  refl,
-  owned-apart (userBelow 64) _ refl,
-  (
-    refl,
-    owned-apart (kernelBelow 512) _ refl,
-    (
-      refl,
-      owned-apart (kernelBelow 512) _ refl,
-      (
-        refl,
-        owned-apart (kernelBelow 512) _ refl,
-        (
-          refl,
-          owned-apart (userBelow 192) _ refl,
-          (
-            refl,
-            owned-apart (userBelow 96) _ refl,
-            (
-              refl,
-              owned-apart (kernelBelow 66) _ refl,
-              (
-                refl,
-                owned-apart (userBelow 68) _ refl,
-                (refl, owned-apart (userBelow 192) _ refl, tt),
-              ),
-            ),
-          ),
-        ),
-      ),
-    ),
-  ),
-)
+abbrev owners : List (ℕ → ℕ)
+owners =
+    userBelow 64 ∷ kernelBelow 512 ∷ kernelBelow 512 ∷ kernelBelow 512 ∷ userBelow 192 ∷ userBelow 96 ∷ kernelBelow 66 ∷ userBelow 68
+    ∷ userBelow 192 ∷ []
+
+pub needed : Needed
+unfolding step accepted refusalOf referred illegalMode examined ruled writtenAt cleared lengthError registerAt widensPar allOwned owned strayMode strays stray
+needed = record { lost = refl; shared = refl; parted = all-apart lasts owners refl }

@@ -1,7 +1,7 @@
 -- Modes are apart if every block that a mode reaches has that mode as its owner: a test that computes on a given store.
 use mathlib.Core.Path.{_≡_, refl, sym, _∙_}
 use mathlib.Core.Bool.{Bool, true, false, not, _&&_, false≢true, true≢false, and-eq-true-iff}
-use mathlib.Core.List.{List}
+use mathlib.Core.List.{List, [], _∷_, map}
 use Prim.Native.Nat.{ℕ}
 use native.Mathlib.Omega.{arith}
 use lib.Dec.{eqb}
@@ -52,3 +52,17 @@ module _ (owner : ℕ → ℕ) where
       by-mode (λ (n : ℕ). reaches l n block ≡ true → owner block ≡ n) (owns l 0 block (not-true _ (t .0))) (owns l 1 block (not-true _ (t .1)))
       (owns l 3 block (not-true _ (s .1))) m (reached l m block r .2 .legal) r in
       apart-is l .1 (λ m n block p q. sym (each m block p) ∙ each n block q)
+
+-- the same for a list of stores, each with its owners
+unfoldable pub allOwned : List (List ℕ) → List (ℕ → ℕ) → Bool
+allOwned [] os = true
+allOwned (l ∷ ls) [] = false
+allOwned (l ∷ ls) (o ∷ os) = owned o l && allOwned ls os
+
+pub all-apart : (ls : List (List ℕ)) (os : List (ℕ → ℕ)) → allOwned ls os ≡ true → map apart ls ≡ map (λ (l : List ℕ). true) ls
+unfolding allOwned
+all-apart [] os h = refl
+all-apart (l ∷ ls) [] h = absurd (false≢true h)
+all-apart (l ∷ ls) (o ∷ os) h =
+    let t = and-eq-true-iff (owned o l) (allOwned ls os) .0 h in
+    rw (owned-apart o l (t .0), all-apart ls os (t .1))

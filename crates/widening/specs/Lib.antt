@@ -4,4 +4,5 @@ pub mod Reaches
 pub mod Runs
 pub mod LastMap
 pub mod Example
+pub mod Premises
 pub mod Needed
