@@ -34,7 +34,7 @@ pub record SameFields (old new : ℕ) : Type 0 where
 pub same-fields : (pdr : ℕ) → SameFields pdr pdr
 same-fields pdr = record { key = refl; ed = refl; len = refl }
 
-bit-small : (x : Bool) → bit x < 2
+pub bit-small : (x : Bool) → bit x < 2
 bit-small true = omega arith
 bit-small false = omega arith
 

@@ -54,12 +54,18 @@ module _ (l : List ℕ) (r : Reference) where
   page : ℕ
   page = pageFor l r
 
+  pdr : ℕ
+  pdr = word l (PDR page)
+
+  write : Bool
+  write = eqb (r .access) 1
+
   -- the answer to a reference, by those tests
   answered : step l (Refer r) .0
-      ≡ answer (eqb (refusalOf l (Refer r)) 0) (relocates (word l SR0)) (eqb (r .mode) 2) (aborts (word l (PDR page)) (eqb (r .access) 1) (r .va))
-      (refusalOf l (Refer r)) (flatByte (r .va)) (nonResidentFlag (word l (PDR page))) (lengthError (word l (PDR page)) (blockOf (r .va)))
-      (readOnlyFlag (word l (PDR page)) (eqb (r .access) 1)) (byteOf (word l page) (r .va)) (traps (word l SR0) (word l (PDR page)) (eqb (r .access) 1))
-  unfolding step accepted referred illegalMode examined ruled answer page
+      ≡ answer (eqb (refusalOf l (Refer r)) 0) (relocates (word l SR0)) (eqb (r .mode) 2) (aborts pdr write (r .va))
+      (refusalOf l (Refer r)) (flatByte (r .va)) (nonResidentFlag pdr) (lengthError pdr (blockOf (r .va))) (readOnlyFlag pdr write)
+      (byteOf (word l page) (r .va)) (traps (word l SR0) pdr write)
+  unfolding step accepted referred illegalMode examined ruled answer page pdr write
   answered = simp cond-first
 
   refusal-of : length l ≡ 100 → refusalOf l (Refer r) ≡ lowest (ofReference r)
@@ -67,7 +73,7 @@ module _ (l : List ℕ) (r : Reference) where
   refusal-of whole = rw (eq-eqb (length l) 100 whole)
 
   pub grant-of : On l → (byte : ℕ) → Granted l r byte → Grant l r byte
-  unfolding page
+  unfolding page pdr write
   grant-of o byte g =
       let t = taken _ _ _ _ _ _ _ _ _ _ byte _ (g .0) (o .relocating) (sym answered ∙ g .1) in
       record {
@@ -78,9 +84,9 @@ module _ (l : List ℕ) (r : Reference) where
       }
 
   pub granted-of : On l → (byte : ℕ) → Grant l r byte → Granted l r byte
-  unfolding page answer
+  unfolding page pdr write answer
   granted-of o byte g = (
-    traps (word l SR0) (word l (PDR page)) (eqb (r .access) 1),
+    traps (word l SR0) pdr write,
     answered ∙ rw (refusal-of (o .whole), g .accepts, o .relocating, g .legal, g .free, g .lies),
   )
 
@@ -89,7 +95,8 @@ length-kept : (b : Bool) (x y n : ℕ) → cond b (leb x y) (leb y x) ≡ true �
 length-kept true x y n w h = le-ltb y n (omega (arith, leb-true x y w, ltb-false x n h))
 length-kept false x y n w h = le-ltb n y (omega (arith, leb-true y x w, ltb-false n x h))
 
-pub no-length-error : {par pdr par' pdr' : ℕ} → PageWider par pdr par' pdr' → (block : ℕ) → lengthError pdr block ≡ false → lengthError pdr' block ≡ false
+pub no-length-error : {par pdr par' pdr' : ℕ} → PageWider par pdr par' pdr'
+    → (block : ℕ) → lengthError pdr block ≡ false → lengthError pdr' block ≡ false
 unfolding lengthError
 no-length-error {par} {pdr} {par'} {pdr'} w block h =
     rw (w .ed) (length-kept (eqb (edOf pdr) 0) (lengthOf pdr) (lengthOf pdr') block (w .blocks) h)
@@ -120,9 +127,10 @@ grant-kept l m w r byte g phase small =
     let pdr = word l (PDR p) in
     let t = no-flag (nonResidentFlag pdr) (lengthError pdr (blockOf (r .va))) (eqb (r .access) 1) (readOnly (keyOf pdr)) (g .free) in
     let q = w .pages p (place-small (r .mode) (usesD (word l SR3) (r .mode) (r .space)) (r .va)) (t .0) in
+    let late = le-ltb 1 phase small in
     let same : pageFor m r ≡ pageFor l r = rw (w .sr3) in
     record {
-      accepts = accepts-phase (ltb 3 (r .mode)) (ltb 1 (r .space)) (ltb 1 (r .access)) (ltb 1 (r .phase)) (ltb 1 phase) (g .accepts) (le-ltb 1 phase small);
+      accepts = accepts-phase (ltb 3 (r .mode)) (ltb 1 (r .space)) (ltb 1 (r .access)) (ltb 1 (r .phase)) (ltb 1 phase) (g .accepts) late;
       legal = g .legal;
       free = rw same (free-flag _ _ (eqb (r .access) 1) _ (q .resident) (no-length-error q (blockOf (r .va)) (t .1)) (λ e. q .writable (t .2 e)));
       lies = g .lies ∙ rw (same, q .base);

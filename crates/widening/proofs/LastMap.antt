@@ -15,7 +15,7 @@ use Rattle.rules.specs.declared.Reference.{Reference}
 use Rattle.rules.specs.declared.Event.{Event}
 use Rattle.widening.specs.Reaches.{isMode, reaches}
 use Rattle.widening.specs.Runs.{after, calm}
-use Rattle.widening.specs.LastMap.{On, Granted, Kept, GrantsReached, ReachGrows, NeverShared, StaysOn}
+use Rattle.widening.specs.LastMap.{On, Granted, Kept, GrantsReached, ReachGrows, NeverShared, StaysOn, Demand3}
 use Rattle.widening.proofs.Wider.{Wider}
 use Rattle.widening.proofs.Stays.{first-small}
 use Rattle.widening.proofs.Steps.{calm-append, stays-on, later-wider}
@@ -106,3 +106,6 @@ granted-last l o run es fs e h r byte g =
 pub neverShared : NeverShared
 neverShared l o run es fs gs hs e f h a r q byte x y =
     apart-is (after l run) .0 a (r .mode) (q .mode) (byte / 64) (granted-last l o run es fs e h r byte x) (granted-last l o run gs hs f h q byte y)
+
+pub demand3 : Demand3
+demand3 = record { kept = kept; neverShared = neverShared }

@@ -67,7 +67,8 @@ by-mode P a b c m h = at (eqb m 0) (eqb m 1) (eqb m 3) refl refl refl h
     at false false false e f g k = absurd (false≢true k)
 
 -- no two of three tests: both ways
-no-two : (a b c : Bool) → ((a && b) || (a && c) || (b && c)) ≡ false → (a ≡ true → b ≡ true → ⊥) × (a ≡ true → c ≡ true → ⊥) × (b ≡ true → c ≡ true → ⊥)
+no-two : (a b c : Bool) → ((a && b) || (a && c) || (b && c)) ≡ false
+    → (a ≡ true → b ≡ true → ⊥) × (a ≡ true → c ≡ true → ⊥) × (b ≡ true → c ≡ true → ⊥)
 no-two true true c h = absurd (true≢false h)
 no-two true false true h = absurd (true≢false h)
 no-two true false false h = (λ x y. false≢true y, λ x y. false≢true y, λ x y. false≢true x)
@@ -75,7 +76,8 @@ no-two false true true h = absurd (true≢false h)
 no-two false true false h = (λ x y. false≢true x, λ x y. false≢true x, λ x y. false≢true y)
 no-two false false c h = (λ x y. false≢true x, λ x y. false≢true x, λ x y. false≢true x)
 
-two : (a b c : Bool) → ((a && b) || (a && c) || (b && c)) ≡ true → (a ≡ true → b ≡ true → ⊥) → (a ≡ true → c ≡ true → ⊥) → (b ≡ true → c ≡ true → ⊥) → ⊥
+two : (a b c : Bool) → ((a && b) || (a && c) || (b && c)) ≡ true
+    → (a ≡ true → b ≡ true → ⊥) → (a ≡ true → c ≡ true → ⊥) → (b ≡ true → c ≡ true → ⊥) → ⊥
 two true true c h p q r = p refl refl
 two true false true h p q r = q refl refl
 two true false false h p q r = false≢true h

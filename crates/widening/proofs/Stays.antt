@@ -13,11 +13,11 @@ use Rattle.page.specs.Fields.{blockOf}
 use Rattle.page.specs.Length.{lengthError}
 use Rattle.page.specs.Sum.{byteOf}
 use Rattle.rules.specs.Paper.{Paper}
-use Rattle.rules.specs.Words.{word, PDR, SR0, SR1, SR2, SR3, bit, relocates, frozen}
+use Rattle.rules.specs.Words.{word, PDR, SR0, SR1, SR2, SR3, relocates, frozen}
 use Rattle.rules.specs.References.{referred, illegalMode, examined, ruled, placeOf, usesD, details, nonResidentFlag, readOnlyFlag, aborts, condition, traps, marksOf, abortFlags, trapFlag, sr0After}
 use Rattle.rules.specs.Others.{started, noted, withChange}
 use Rattle.rules.specs.declared.Reference.{Reference}
-use Rattle.widening.proofs.Fields.{SameFields, same-fields, marked, sr0-low}
+use Rattle.widening.proofs.Fields.{SameFields, same-fields, bit-small, marked, sr0-low}
 use Rattle.widening.proofs.Wider.{SameMap}
 
 -- a word after a store at place i: the value there, and elsewhere the word that was
@@ -88,10 +88,6 @@ pub first-small : (x y : Bool) → cond x 0 (cond y 16 32) ≤ 32
 first-small true y = omega arith
 first-small false true = omega arith
 first-small false false = omega arith
-
-bit-small : (x : Bool) → bit x ≤ 1
-bit-small true = omega arith
-bit-small false = omega arith
 
 pub place-small : (mode : ℕ) (d : Bool) (va : ℕ) → placeOf mode d va < 48
 place-small mode d va = omega (arith, first-small (eqb mode 0) (eqb mode 1), bit-small d)

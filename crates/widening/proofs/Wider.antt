@@ -38,7 +38,8 @@ blocks-trans : (b : Bool) (x y z : ℕ) → cond b (leb x y) (leb y x) ≡ true 
 blocks-trans true x y z h k = le-leb x z (omega (arith, leb-true x y h, leb-true y z k))
 blocks-trans false x y z h k = le-leb z x (omega (arith, leb-true y x h, leb-true z y k))
 
-pub same-wider : (par pdr par' pdr' : ℕ) → baseOf par' ≡ baseOf par → SameFields pdr pdr' → nonResident (keyOf pdr) ≡ false → PageWider par pdr par' pdr'
+pub same-wider : (par pdr par' pdr' : ℕ) → baseOf par' ≡ baseOf par
+    → SameFields pdr pdr' → nonResident (keyOf pdr) ≡ false → PageWider par pdr par' pdr'
 same-wider par pdr par' pdr' b f r =
     record {
       base = b;

@@ -79,7 +79,8 @@ module _ (l : List ℕ) (whole : length l ≡ 100) where
       let size = length-set l q a in
       let beyond : (i : ℕ) → (i ≡ q → ⊥) → (i ≡ PDR q → ⊥) → word (set k (PDR q) b) i ≡ word l i =
       λ i n d. getD-set-other k (PDR q) i b 0 d ∙ getD-set-other l q i a 0 n in
-      one-page (set k (PDR q) b) q (length-set k (PDR q) b ∙ size) (beyond SR0 (λ e. omega arith) (λ e. omega arith)) (beyond SR3 (λ e. omega arith) (λ e. omega arith))
+      one-page (set k (PDR q) b) q (length-set k (PDR q) b ∙ size) (beyond SR0 (λ e. omega arith) (λ e. omega arith))
+      (beyond SR3 (λ e. omega arith) (λ e. omega arith))
       (λ r.
       rw (getD-set-other k (PDR q) q b 0 (λ e. omega arith), getD-set-same l q a 0 (omega arith), getD-set-same k (PDR q) b 0 (omega arith))
       (same-wider (word l q) (word l (PDR q)) a b
@@ -109,7 +110,7 @@ module _ (l : List ℕ) (whole : length l ≡ 100) where
             (same-wider (word l p) (word l (PDR p)) (word l p) (word l (PDR p)) refl (same-fields (word l (PDR p))) r);
       }
 
-  -- the write at a place, by the tests of `writtenAt`: a PAR, a PDR, SR0, not SR3, no word at all
+  -- the write at a place, by the tests of `writtenAt`: a PAR, a PDR, SR0; any other place but SR3 keeps the store
   pub written-wider : (place value : ℕ) → eqb place SR3 ≡ false → relocates (word (writtenAt l place value) SR0) ≡ true
       → widensAt l place value ≡ true → Wider l (writtenAt l place value)
   unfolding writtenAt widensAt
