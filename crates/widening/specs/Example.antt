@@ -30,7 +30,7 @@ run =
     refer 0 0 1 0o000217  -- Kernel writes: granted
     ∷ refer 1 0 0 0o000017  -- Supervisor and User read: granted
     ∷ refer 3 1 0 0o017777
-    ∷ Write 0o772300 0o077406  -- its length grows to 128 blocks
+    ∷ Write 0o772300 0o077406  -- Kernel's length grows to 128 blocks
     ∷ Write 0o772200 0o037404  -- Supervisor's key 2 becomes 4
     ∷ Write 0o777642 0o2200  -- User page 1 has key 0: its PAR may change
     ∷ Write 0o777602 0o077402  -- and then its PDR
