@@ -51,7 +51,7 @@ fn enter(s: &mut [u16], byte: u16) -> Answer
         s[97] = sr1 + byte;
         return Answer::Done;
     }
-    if sr1 / 256 == 0 {
+    if sr1 / 256 % 256 == 0 {
         s[97] = sr1 + byte * 256;
         return Answer::Done;
     }
