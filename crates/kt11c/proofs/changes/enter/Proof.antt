@@ -29,11 +29,11 @@ enter-spec =
     tie.close
     (tie.spec
     (λ c. search needs)
+    (λ c. search needs)
     add-s
     (λ c. search needs)
     (λ c. search needs)
     returns
-    (λ c. search needs)
     add-s-2
     (λ c. search needs)
     (λ c. search needs)
