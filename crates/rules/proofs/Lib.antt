@@ -1,2 +1,3 @@
 pub mod Values
 pub mod Papers
+pub mod Outcomes
