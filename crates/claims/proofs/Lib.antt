@@ -1,4 +1,3 @@
-pub mod Bools
 pub mod Readings
 pub mod Lowest
 pub mod Demand1

@@ -1,6 +1,6 @@
 -- The ranges lead to the same place as 01's list of addresses: computed for each byte inside, by bounds outside.
 use mathlib.Core.Path.{_≡_, refl, _∙_, ap, sym, subst}
-use mathlib.Core.Bool.{Bool, true, false, cond, _&&_, false≢true}
+use mathlib.Core.Bool.{Bool, true, false, _&&_}
 use mathlib.Core.List.{List, [], _∷_}
 use Prim.Native.Nat.{ℕ, suc, _+_, _-_, _%_, _≤_, _<_}
 use native.Mathlib.Omega.{arith}
@@ -8,6 +8,7 @@ use lib.Dec.{ltb, leb, eqb}
 use lib.ListN.{length}
 use borrow.Author.Tests.{leb-true, ltb-true, ltb-false, ne-eqb, lt-ltb, le-ltb}
 use Rattle.rules.specs.Addresses.{registerAt, indexOf, values, addressOf}
+use Rattle.rules.proofs.Bools.{and-l, and-r, cond-same}
 use Rattle.rules.proofs.Values.{agree}
 use Rattle.decode.specs.Ranges.{byRange}
 
@@ -15,14 +16,6 @@ use Rattle.decode.specs.Ranges.{byRange}
 within : ℕ → ℕ → List ℕ → Bool
 within lo hi [] = true
 within lo hi (x ∷ xs) = leb lo x && (ltb x hi && within lo hi xs)
-
-and-l : (a b : Bool) → (a && b) ≡ true → a ≡ true
-and-l true b h = refl
-and-l false b h = h
-
-and-r : (a b : Bool) → (a && b) ≡ true → b ≡ true
-and-r true b h = h
-and-r false b h = absurd (false≢true h)
 
 -- what lies outside is none of them
 outside : (lo hi a : ℕ) (xs : List ℕ) → within lo hi xs ≡ true → (lo ≤ a → a < hi → ⊥) → indexOf a xs ≡ length xs
@@ -42,13 +35,9 @@ inside : values byRange 0o772200 0o5500 ≡ values registerAt 0o772200 0o5500
 unfolding byRange registerAt
 inside = refl
 
-cond-same : (x : Bool) → _≡_ {A = ℕ} (cond x 100 100) 100
-cond-same true = refl
-cond-same false = refl
-
 low : (a : ℕ) → a < 0o772200 → byRange a ≡ 100
 unfolding byRange
-low a h = rw (lt-ltb a 0o772200 h) (cond-same (eqb (a % 2) 1))
+low a h = rw (lt-ltb a 0o772200 h) (cond-same (eqb (a % 2) 1) 100)
 
 high : (a : ℕ) → 0o777700 ≤ a → byRange a ≡ 100
 unfolding byRange
@@ -61,7 +50,7 @@ high a h =
       le-ltb a 0o777600 (omega arith),
       le-ltb a 0o777700 h,
     )
-    (cond-same (eqb (a % 2) 1))
+    (cond-same (eqb (a % 2) 1) 100)
 
 by-case : (a : ℕ) (x y : Bool) → ltb a 0o772200 ≡ x → ltb a 0o777700 ≡ y → byRange a ≡ registerAt a
 by-case a true y e f =

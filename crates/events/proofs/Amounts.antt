@@ -10,23 +10,20 @@ use mir.Syntax.{w32}
 use mir.Val.{SFits, toZ, ofZ}
 use mir.ValLaws.{toZ-ofZ}
 use borrow.Author.Tests.{ltb-true, ltb-false, le-ltb, ne-eqb}
+use Rattle.rules.proofs.Bools.{and-r}
 use Rattle.rules.specs.Others.{goodAmount, fiveBits}
 
-and-right : (a b : Bool) → (a && b) ≡ true → b ≡ true
-and-right true b h = h
-and-right false b h = absurd (false≢true h)
-
-pub small : (z : ℤ) → goodAmount z ≡ true → fiveBits z < 32
-small (pos n) g = omega (arith, ltb-true n 16 (and-right (not (eqb n 0)) (ltb n 16) g))
+small : (z : ℤ) → goodAmount z ≡ true → fiveBits z < 32
+small (pos n) g = omega (arith, ltb-true n 16 (and-r (not (eqb n 0)) (ltb n 16) g))
 small (negsuc n) g = omega (arith, ltb-true n 16 g)
 
-pub below : (z : ℤ) → goodAmount z ≡ true → ltZ z (pos 0) ≡ true → z +ℤ pos 32 ≡ pos (fiveBits z)
+below : (z : ℤ) → goodAmount z ≡ true → ltZ z (pos 0) ≡ true → z +ℤ pos 32 ≡ pos (fiveBits z)
 below (pos n) g h = absurd (omega (arith, ltb-true n 0 h))
 below (negsuc n) g h =
     let k : n < 16 = ltb-true n 16 g in
     rw (le-ltb 32 (suc n) (omega arith)) (ap pos (omega arith))
 
-pub above : (z : ℤ) → goodAmount z ≡ true → ltZ z (pos 0) ≡ false → z ≡ pos (fiveBits z)
+above : (z : ℤ) → goodAmount z ≡ true → ltZ z (pos 0) ≡ false → z ≡ pos (fiveBits z)
 above (pos n) g h = refl
 above (negsuc n) g h = absurd (false≢true (sym h))
 
@@ -38,3 +35,21 @@ good-is (pos n) f = and-comm (leb n 15) (not (eqb n 0)) ∙ ap (λ (x : Bool). n
 good-is (negsuc n) f =
     let k : n < 2 ^ 31 = f .sfits in
     rw (ne-eqb (2 ^ 32 - suc n) 0 (λ z. omega arith), and-true, and-true) (sym (leb·suc-suc n 15))
+
+-- what the machine holds of a good amount below 0: the sum with 32 is its five bits
+pub record Low (z : ℤ) : Type 0 where
+  pub held : toZ w32 (ofZ w32 z) ≡ z
+  pub sum : z +ℤ pos 32 ≡ pos (fiveBits z)
+  pub five : fiveBits z < 32
+
+pub low : (z : ℤ) → SFits w32 z → goodAmount z ≡ true → ltZ (toZ w32 (ofZ w32 z)) (pos 0) ≡ true → Low z
+low z f g h = let e = toZ-ofZ w32 z f in record { held = e; sum = below z g (rw e at h); five = small z g }
+
+-- and of one from 0 up: it is its five bits
+pub record High (z : ℤ) : Type 0 where
+  pub held : toZ w32 (ofZ w32 z) ≡ z
+  pub same : z ≡ pos (fiveBits z)
+  pub five : fiveBits z < 32
+
+pub high : (z : ℤ) → SFits w32 z → goodAmount z ≡ true → ltZ (toZ w32 (ofZ w32 z)) (pos 0) ≡ false → High z
+high z f g h = let e = toZ-ofZ w32 z f in record { held = e; same = above z g (rw e at h); five = small z g }

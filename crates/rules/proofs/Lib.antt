@@ -1,3 +1,4 @@
 pub mod Values
 pub mod Papers
 pub mod Outcomes
+pub mod Bools

@@ -1,9 +1,13 @@
--- Small facts about bools and tests that the theorems share.
+-- Small facts about bools, choices and the numbers of flags and places that the proofs share.
 use mathlib.Core.Path.{_≡_, refl, sym}
 use mathlib.Core.Bool.{Bool, true, false, cond, not, _&&_, _||_, false≢true, true≢false}
 use mathlib.Core.List.{List}
-use Prim.Native.Nat.{ℕ}
+use Prim.Native.Nat.{ℕ, _+_, _*_, _≤_, _<_}
+use native.Mathlib.Omega.{arith}
+use lib.Dec.{eqb}
 use lib.ListN.{getD, length}
+use Rattle.rules.specs.Words.{bit}
+use Rattle.rules.specs.References.{placeOf}
 
 pub and-l : (a b : Bool) → (a && b) ≡ true → a ≡ true
 and-l true b h = refl
@@ -41,3 +45,16 @@ cond-length false k l = refl
 pub cond-same : {A : Type 0} (b : Bool) (x : A) → cond b x x ≡ x
 cond-same true x = refl
 cond-same false x = refl
+
+pub bit-small : (b : Bool) → bit b ≤ 1
+bit-small true = omega arith
+bit-small false = omega arith
+
+-- rule 3 finds one of the 48 pages
+pub first-small : (x y : Bool) → cond x 0 (cond y 16 32) ≤ 32
+first-small true y = omega arith
+first-small false true = omega arith
+first-small false false = omega arith
+
+pub place-small : (mode : ℕ) (d : Bool) (va : ℕ) → placeOf mode d va < 48
+place-small mode d va = omega (arith, first-small (eqb mode 0) (eqb mode 1), bit-small d)
