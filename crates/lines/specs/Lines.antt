@@ -1,7 +1,9 @@
 -- The line of an answer (01, "Recordings").
-use Prim.Native.Nat.{ℕ}
+use Prim.Native.Nat.{ℕ, _+_}
 use mathlib.Core.Bool.{Bool, cond}
 use mathlib.Core.List.{List, [], _∷_, _++_}
+use lib.ListN.{length, take, drop}
+use lib.Dec.{leb}
 use Rattle.rules.specs.Paper.{Paper, G, A, R, D, X}
 use Rattle.rules.specs.Words.{bit}
 use Rattle.lines.specs.Digits.{digit, octal, decimal}
@@ -38,3 +40,10 @@ lineOfParts (part ∷ rest) = joined part rest
 
 unfoldable pub lineOf : Paper → Text
 lineOf p = lineOfParts (parts p)
+
+-- a text at a place of the output, where it fits: how many bytes are written, and the output afterwards
+unfoldable pub placed : List ℕ → ℕ → Text → ℕ × List ℕ
+placed out at text =
+    cond (leb (at + length text) (length out))
+    (length text, take at out ++ text ++ drop (at + length text) out)
+    (0, out)

@@ -11,7 +11,7 @@ ghost use lib.Seq.{sets};
 ghost use Rattle.rules.specs.Paper.{paper, number, G, A as Abort, R, D, X};
 ghost use Rattle.rules.specs.Words.{bit};
 ghost use Rattle.lines.specs.Digits.{digit, octal, decimal};
-ghost use Rattle.lines.specs.Lines.{lineOf};
+ghost use Rattle.lines.specs.Lines.{lineOf, placed};
 
 const SPACE: u8 = 32;
 const FEED: u8 = 10;
@@ -108,4 +108,76 @@ fn put_refused(out: &mut [u8], at: usize, n: u32)
     out[at + 2] = decimal_digit(n / 10);
     out[at + 3] = decimal_digit(n);
     out[at + 4] = FEED;
+}
+
+fn number_of(r: Refusal) -> u32
+    ensures { λ n. ⌜ n ≡ number r ⌝ }
+{
+    match r {
+        Refusal::Store => 1,
+        Refusal::Mode => 2,
+        Refusal::Space => 3,
+        Refusal::Access => 4,
+        Refusal::Phase => 5,
+        Refusal::High => 6,
+        Refusal::Odd => 7,
+        Refusal::NoRegister => 8,
+        Refusal::BadChange => 9,
+        Refusal::Full => 10,
+        Refusal::Kind => 11,
+        Refusal::Cut => 12,
+        Refusal::Long => 13,
+    }
+}
+
+// The length of the longest line.
+pub const LONGEST: usize = 11;
+
+// The length of an answer's line.
+pub fn length_of(a: Answer) -> usize
+    ensures { λ n. ⌜ n ≡ length (lineOf (paper a)) ⌝ }
+{
+    match a {
+        Answer::Granted { byte: _, trap: _ } => 11,
+        Answer::Aborted {
+            nonresident: _,
+            length: _,
+            readonly: _,
+        } => 6,
+        Answer::Word(_) => 9,
+        Answer::Done => 2,
+        Answer::Refused(_) => 5,
+    }
+}
+
+fn put_fitting(out: &mut [u8], at: usize, a: Answer)
+    requires { ⌜ at + length (lineOf (paper a)) ≤ length (now out) ⌝ }
+    ensures { λ r. ⌜ now (out .exit) ≡ sets (now (out .entry)) at (lineOf (paper a)) ⌝ }
+{
+    match a {
+        Answer::Granted { byte, trap } => put_granted(out, at, byte, trap),
+        Answer::Aborted {
+            nonresident,
+            length,
+            readonly,
+        } => put_aborted(out, at, nonresident, length, readonly),
+        Answer::Word(word) => put_word(out, at, word),
+        Answer::Done => put_done(out, at),
+        Answer::Refused(refusal) => put_refused(out, at, number_of(refusal)),
+    }
+}
+
+// The line of an answer at a place of the output, where it fits: how many bytes were written, 0 where it does not fit.
+pub fn put(out: &mut [u8], at: usize, a: Answer) -> usize
+    ensures { λ n. ⌜ (n, now (out .exit)) ≡ placed (now (out .entry)) at (lineOf (paper a)) ⌝ }
+{
+    if out.len() < at {
+        return 0;
+    }
+    let n = length_of(a);
+    if out.len() - at < n {
+        return 0;
+    }
+    put_fitting(out, at, a);
+    n
 }
