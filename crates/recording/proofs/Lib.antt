@@ -1,4 +1,4 @@
 pub mod Kept
 pub mod Bound
-
-
+pub mod Chains
+pub mod Claims
