@@ -1,0 +1,4 @@
+pub mod Modes
+pub mod Pages
+pub mod Steps
+pub mod Amounts

@@ -1,0 +1,4 @@
+pub mod Accepted
+pub mod Found
+pub mod Starts
+pub mod Changes

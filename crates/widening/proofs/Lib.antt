@@ -1,0 +1,12 @@
+pub mod Fields
+pub mod Wider
+pub mod Stays
+pub mod Writes
+pub mod Steps
+pub mod Grants
+pub mod Reached
+pub mod LastMap
+pub mod Owned
+pub mod Example
+pub mod Premises
+pub mod Needed

@@ -1,0 +1,165 @@
+//! Recordings at their edges, and the program that replays one.
+
+use std::fs::File;
+use std::io::Write;
+use std::process::{Command, Output, Stdio};
+
+use peer::{apply, replay, Event};
+
+#[track_caller]
+fn text(recording: &[u8], expected: &str) {
+    let text = replay(&mut [0; 100], recording);
+    assert_eq!(String::from_utf8(text).unwrap(), expected);
+}
+
+#[test]
+fn empty_input_gives_empty_output() {
+    text(&[], "");
+}
+
+#[test]
+fn the_limit_is_32_768_bytes() {
+    text(&[7; 32_768], &"D\n".repeat(32_768));
+    let mut store = [0o177777; 100];
+    assert_eq!(replay(&mut store, &[7; 32_769]), b"X 13\n");
+    assert_eq!(store, [0o177777; 100]);
+}
+
+#[test]
+fn a_full_recording_of_the_longest_lines() {
+    let reads = [2, 0x7A, 0xFF, 0x03].repeat(8192);
+    text(&reads, &"R 000000\n".repeat(8192));
+}
+
+#[test]
+fn each_kind_of_record() {
+    // SR3 takes 17; SR0 bits 9 and 0 are set; Kernel D page 1 has key 4.
+    let recording = [
+        &[3, 0x4E, 0xF5, 0x03, 0xFF, 0xFF][..],
+        &[2, 0x4E, 0xF5, 0x03],
+        &[3, 0xD2, 0xF4, 0x03, 0x04, 0x7F],
+        &[3, 0x7A, 0xFF, 0x03, 0x01, 0x02],
+        &[4, 0x34, 0x12],
+        &[6, 6, 0xFE],
+        &[1, 0, 1, 1, 1, 0x05, 0x20],
+        &[2, 0x7A, 0xFF, 0x03],
+        &[2, 0xD2, 0xF4, 0x03],
+        &[2, 0x7C, 0xFF, 0x03],
+        &[5, 0xA8, 0x00],
+        &[2, 0x7C, 0xFF, 0x03],
+        &[2, 0x7E, 0xFF, 0x03],
+        &[1, 3, 0, 0, 0, 0x40, 0xE0],
+        &[7],
+        &[2, 0x7A, 0xFF, 0x03],
+        &[1, 2, 0, 0, 0, 0xFF, 0xFF],
+    ]
+    .concat();
+    let lines = "D\nR 000017\nD\nD\nD\nD\nG 000005 T\nR 011223\nR 077704\nR 000366\n\
+                 D\nR 000000\nR 000250\nA 110\nD\nR 000000\nG 777777 -\n";
+    text(&recording, lines);
+}
+
+#[test]
+fn an_unknown_kind_stops() {
+    for kind in [0, 8, 255] {
+        text(&[7, kind, 7, 7, 7, 7, 7, 7, 7], "D\nX 11\n");
+        // Even as the last byte it is unknown before it is cut short.
+        text(&[7, kind], "D\nX 11\n");
+    }
+}
+
+#[test]
+fn a_record_cut_short_stops() {
+    for (kind, body) in [(1, 6), (2, 3), (3, 5), (4, 2), (5, 2), (6, 2)] {
+        for length in 0..body {
+            let mut recording = vec![7, kind];
+            // Bytes that would be refused otherwise: 12 comes before an event's own.
+            recording.resize(2 + length, 255);
+            text(&recording, "D\nX 12\n");
+        }
+    }
+}
+
+#[test]
+fn other_refusals_go_on() {
+    let recording = [
+        &[1, 4, 0, 0, 0, 0, 0][..],
+        &[1, 3, 2, 0, 0, 0, 0],
+        &[1, 3, 1, 2, 0, 0, 0],
+        &[1, 3, 1, 1, 2, 0, 0],
+        &[2, 0x00, 0x00, 0x04],
+        &[2, 0x7B, 0xFF, 0x03],
+        &[3, 0x00, 0x00, 0x00, 0x00, 0x00],
+        &[6, 8, 1],
+        &[6, 0, 0],
+        &[6, 0, 16],
+        &[6, 0, 0xEF],
+        &[6, 0, 0xF0],
+        &[6, 7, 15],
+        &[6, 0, 1],
+        &[2, 0x7C, 0xFF, 0x03],
+    ]
+    .concat();
+    let lines = "X 02\nX 03\nX 04\nX 05\nX 06\nX 07\nX 08\nX 09\nX 09\nX 09\nX 09\n\
+                 D\nD\nX 10\nR 077600\n";
+    text(&recording, lines);
+}
+
+#[test]
+fn a_replay_changes_the_lent_store_as_its_events_do() {
+    let (address, value) = (0o777572, 0o000001);
+    let mut expected = [0o177777; 100];
+    apply(&mut expected, Event::Init);
+    apply(&mut expected, Event::Write { address, value });
+    apply(&mut expected, Event::Interrupt { vector: 0o250 });
+    let mut store = [0o177777; 100];
+    let recording = [7, 3, 0x7A, 0xFF, 0x03, 1, 0, 5, 0xA8, 0, 9];
+    assert_eq!(replay(&mut store, &recording), b"D\nD\nD\nX 11\n");
+    assert_eq!(store, expected);
+}
+
+fn program(input: &[u8]) -> Output {
+    let mut child = Command::new(env!("CARGO_BIN_EXE_peer-replay"))
+        .stdin(Stdio::piped())
+        .stdout(Stdio::piped())
+        .stderr(Stdio::piped())
+        .spawn()
+        .unwrap();
+    child.stdin.take().unwrap().write_all(input).unwrap();
+    child.wait_with_output().unwrap()
+}
+
+#[test]
+fn the_program_writes_the_text() {
+    for (input, expected) in [
+        (&[][..], &b""[..]),
+        (&[7, 2, 0x7A, 0xFF, 0x03], b"D\nR 000000\n"),
+        (&[7, 7, 0], b"D\nD\nX 11\n"),
+        (&[7; 32_768], "D\n".repeat(32_768).as_bytes()),
+        (&[7; 32_769], b"X 13\n"),
+    ] {
+        let output = program(input);
+        assert_eq!(output.stdout, expected);
+        assert!(output.stderr.is_empty());
+        assert!(output.status.success());
+    }
+}
+
+#[cfg(target_os = "linux")]
+#[test]
+fn the_program_says_its_errors() {
+    let mut unreadable = Command::new(env!("CARGO_BIN_EXE_peer-replay"));
+    unreadable.stdin(File::open("/").unwrap());
+    let output = unreadable.output().unwrap();
+    assert_eq!(output.status.code(), Some(1));
+    assert!(output.stdout.is_empty());
+    assert!(!output.stderr.is_empty());
+
+    let endless = File::open("/dev/zero").unwrap();
+    let full = File::options().write(true).open("/dev/full").unwrap();
+    let mut unwritable = Command::new(env!("CARGO_BIN_EXE_peer-replay"));
+    unwritable.stdin(endless).stdout(full);
+    let output = unwritable.output().unwrap();
+    assert_eq!(output.status.code(), Some(1));
+    assert!(!output.stderr.is_empty());
+}
