@@ -1,7 +1,7 @@
 // An answer's line (01, "Recordings"), written straight into the lent output.
 
-use rules::{Answer, Refusal};
-
+use rules::Answer;
+use rules::Refusal;
 ghost use mathlib.Core.Path.{_≡_};
 ghost use mathlib.Core.Bool.{cond};
 ghost use mathlib.Core.List.{_∷_, []};
@@ -14,6 +14,7 @@ ghost use Rattle.lines.specs.Digits.{digit, octal, decimal};
 ghost use Rattle.lines.specs.Lines.{lineOf, placed};
 
 const SPACE: u8 = 32;
+
 const FEED: u8 = 10;
 
 fn octal_digit(n: u32) -> u8

@@ -50,9 +50,10 @@ module _ (r : List ℕ) (short : length r ≤ 32768) where
   chain-of n at l End e w h q next = tt
   chain-of n at l (Refused x) e w h q next = alone r (placeAt at false) l (number x) at l q
   chain-of n at l (Whole v c) e w h q next =
-      let a = advances r at v c e in
-      (record { left = q; some = some (step l v .0); most = most (step l v .0) },
-      next (c .at) (step l v .1) (kept l v ∙ w) (omega arith))
+      let a = advances r at v c e in (
+        record { left = q; some = some (step l v .0); most = most (step l v .0) },
+        next (c .at) (step l v .1) (kept l v ∙ w) (omega arith),
+      )
 
   records-chain : (n at : ℕ) (l : List ℕ) → length l ≡ 100 → length r - at ≤ n → Chain r (placeAt at false) l (turns n r at l)
   unfolding turns

@@ -2,3 +2,6 @@ pub mod Kept
 pub mod Bound
 pub mod Chains
 pub mod Claims
+pub mod Reached
+pub mod Ahead
+pub mod Whole

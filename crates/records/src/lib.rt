@@ -1,7 +1,8 @@
 // A recording's records, from bytes to events (01, "Recordings"): a cursor by value over the lent bytes.
 
-use rules::{Event, Reference, Refusal};
-
+use rules::Event;
+use rules::Reference;
+use rules::Refusal;
 ghost use mathlib.Core.Path.{_≡_};
 ghost use Prim.Native.Nat.{_+_, _≤_, _<_};
 ghost use lib.ListN.{length};
@@ -65,11 +66,7 @@ fn three_at(s: &[u8], at: usize) -> u32
 fn amount_of(b: u8) -> i32
     ensures { λ r. ⌜ r ≡ signed b ⌝ }
 {
-    if b < 128 {
-        b as i32
-    } else {
-        b as i32 - 256
-    }
+    if b < 128 { b as i32 } else { b as i32 - 256 }
 }
 
 // kind 1: mode, space, access, phase, VA
@@ -111,9 +108,7 @@ fn event_at(kind: u8, s: &[u8], at: usize) -> Event
             address: three_at(s, at),
             value: two_at(s, at + 3),
         },
-        4 => Event::Instruction {
-            va: two_at(s, at),
-        },
+        4 => Event::Instruction { va: two_at(s, at) },
         5 => Event::Interrupt {
             vector: two_at(s, at),
         },
@@ -152,11 +147,6 @@ impl Cursor {
             return Found::Refused(Refusal::Cut);
         }
         let event = event_at(kind, s, start);
-        Found::Whole(
-            event,
-            Cursor {
-                at: start + body,
-            },
-        )
+        Found::Whole(event, Cursor { at: start + body })
     }
 }

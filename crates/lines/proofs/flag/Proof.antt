@@ -1,13 +1,9 @@
 use Rattle.lines.proofs.flag.Statement.{statement}
 use Rattle.lines.proofs.flag.Tie as tie
-use Rattle.lines.proofs.flag.Reads as reads
-use Rattle.lines.proofs.flag.Lts as lts
 
--- src/lib.rt:31:1
 returns : tie.Need-returns
 returns c = rw (c .if1 .taken)
 
--- src/lib.rt:31:1
 returns-2 : tie.Need-returns-2
 returns-2 c = rw (c .if1 .left)
 

@@ -5,84 +5,45 @@ use lib.ListN.{length-set}
 use borrow.Author.Needs.{needs}
 use Rattle.lines.proofs.put_granted.Statement.{statement}
 use Rattle.lines.proofs.put_granted.Tie as tie
-use Rattle.lines.proofs.put_granted.Reads as reads
-use Rattle.lines.proofs.put_granted.Lts as lts
-use Rattle.lines.proofs.mark.Reads as mark-reads
-use Rattle.lines.proofs.put_octal.Reads as put-octal-reads
 
--- src/lib.rt:64:5
-slice-write-out : tie.Need-slice-write-out
-slice-write-out c = search needs
-
--- src/lib.rt:65:9
-add-out : tie.Need-add-out
-add-out c = search needs
-
--- src/lib.rt:65:5
 slice-write-out-2 : tie.Need-slice-write-out-2
 slice-write-out-2 c = simp length-set (omega arith)
 
--- src/lib.rt:66:20
-add-put-octal : tie.Need-add-put-octal
-add-put-octal c = search needs
-
--- src/lib.rt:66:5
 put-octal-requires : tie.Need-put-octal-requires
 put-octal-requires c κs = simp length-set (omega arith)
 
--- src/lib.rt:67:9
-add-out-2 : tie.Need-add-out-2
-add-out-2 c = search needs
-
--- src/lib.rt:67:5
 slice-write-out-3 : tie.Need-slice-write-out-3
 slice-write-out-3 c = omega (arith, simp length-set at (c .before .before .put-octal .kept .0))
 
--- src/lib.rt:68:19
-mark-requires : tie.Need-mark-requires
-mark-requires c κs = search needs
-
--- src/lib.rt:68:9
-add-out-3 : tie.Need-add-out-3
-add-out-3 c = search needs
-
--- src/lib.rt:68:5
 slice-write-out-4 : tie.Need-slice-write-out-4
 slice-write-out-4 c = simp length-set (omega (arith, simp length-set at (c .before .before .before .put-octal .kept .0)))
 
--- src/lib.rt:69:9
-add-out-4 : tie.Need-add-out-4
-add-out-4 c = search needs
-
--- src/lib.rt:69:5
 slice-write-out-5 : tie.Need-slice-write-out-5
 slice-write-out-5 c = simp length-set (omega (arith, simp length-set at (c .before .before .before .put-octal .kept .0)))
 
--- src/lib.rt:60:1
 same-length : tie.Need-same-length
 same-length c = simp length-set (simp length-set at (c .before .before .before .put-octal .kept .0))
 
--- src/lib.rt:60:1
 returns : tie.Need-returns
 unfolding lineOf
-returns c =     let at = c .before .before .before .before .before .before .args .at in
+returns c = let at = c .before .before .before .before .before .before .args .at in
     rw (c .before .before .before .put-octal .ensures, c .mark .ensures, place 1 at, place 2 at, place 8 at, place 9 at, place 10 at)
 
 pub put-granted-spec : {M : Type 1} → statement M
 put-granted-spec =
     tie.close
     (tie.spec
-    slice-write-out
-    add-out
+    (λ c. search needs)
+    (λ c. search needs)
     slice-write-out-2
-    add-put-octal
+    (λ c. search needs)
     put-octal-requires
-    add-out-2
+    (λ c. search needs)
     slice-write-out-3
-    mark-requires
-    add-out-3
+    (λ c κs. search needs)
+    (λ c. search needs)
     slice-write-out-4
-    add-out-4
+    (λ c. search needs)
     slice-write-out-5
     same-length
     returns)

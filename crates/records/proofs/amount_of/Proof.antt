@@ -6,28 +6,15 @@ use mathlib.Core.Path.{_∙_}
 use borrow.Author.Needs.{needs}
 use Rattle.records.proofs.amount_of.Statement.{statement}
 use Rattle.records.proofs.amount_of.Tie as tie
-use Rattle.records.proofs.amount_of.Reads as reads
-use Rattle.records.proofs.amount_of.Lts as lts
 
--- src/lib.rt:63:9
-cast-result : tie.Need-cast-result
-cast-result c = search needs
-
--- src/lib.rt:65:9
-cast-result-2 : tie.Need-cast-result-2
-cast-result-2 c = search needs
-
--- src/lib.rt:65:9
 sub-result : tie.Need-sub-result
 sub-result c = let b = c .before .args .b in rw (plain b (omega arith), below b (c .if1 .left) (omega arith)) (fits b (c .if1 .left) (omega arith))
 
--- src/lib.rt:59:1
 returns : tie.Need-returns
 returns c = let b = c .before .args .b in plain b (omega arith) ∙ above b (c .if1 .taken)
 
--- src/lib.rt:59:1
 returns-2 : tie.Need-returns-2
 returns-2 c = let b = c .before .args .b in rw (plain b (omega arith), below b (c .if1 .left) (omega arith)) (toZ-ofZ w32 _ (fits b (c .if1 .left) (omega arith)))
 
 pub amount-of-spec : {M : Type 1} → statement M
-amount-of-spec = tie.close (tie.spec cast-result cast-result-2 sub-result returns returns-2)
+amount-of-spec = tie.close (tie.spec (λ c. search needs) (λ c. search needs) sub-result returns returns-2)
