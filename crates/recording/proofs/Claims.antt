@@ -12,7 +12,7 @@ use Rattle.lines.specs.Lines.{Text}
 use Rattle.recording.specs.Turns.{Turn, placeAt}
 use Rattle.recording.specs.Transcript.{turnsFrom, textOf, storeAfter, left}
 use Rattle.recording.specs.Steps.{Stretch, stretch, after, fitting, stepOf, stepsOf}
-use Rattle.recording.specs.Claims.{Together, Finished, AtOnce, Roomy, InSteps}
+use Rattle.recording.specs.Claims.{Together, Finished, AtOnce, stepsLeft, Progress, Roomy, InSteps}
 use Rattle.recording.specs.declared.Place.{Place}
 use Rattle.recording.proofs.Chains.{First, Chain, chain, count}
 
@@ -83,6 +83,25 @@ unfolding rest
 takes r p l t ts room c h =
     rw (le-leb (length (t .line)) room (omega (arith, c .0 .most)))
     (omega (arith, taken r (t .place) (t .store) ts (room - length (t .line)) (c .1) .fewer))
+
+-- so fewer steps are left
+one-fewer : (over : Bool) (m n : ℕ) → m < n → cond over 0 (1 + m) < 1 + n
+one-fewer true m n h = omega arith
+one-fewer false m n h = omega arith
+
+fewer-left : (r : List ℕ) (p : Place) (l : List ℕ) (ts : List Turn) (room : ℕ) → Chain r p l ts → 11 ≤ room
+    → let q = fitting room p l ts in stepsLeft r (q .place) (q .store) < 1 + length ts
+unfolding fitting
+fewer-left r p l [] room c h = omega arith
+fewer-left r p l (t ∷ ts) room c h =
+    let k = taken r p l (t ∷ ts) room c in
+    let q = fitting room p l (t ∷ ts) in
+    rw (k .from) (one-fewer (q .place .over) (length (rest room (t ∷ ts))) (length (t ∷ ts)) (takes r p l t ts room c h))
+
+pub progress : Progress
+progress r p l room o h =
+    let going = placeAt (p .at) false in
+    rw o (fewer-left r going l (turnsFrom r going l) room (chain r going l) h)
 
 -- once over, nothing more is written
 stays : (rooms : List ℕ) (r : List ℕ) (at : ℕ) (l : List ℕ) → Finished (stepsOf r (placeAt at true) l rooms) ([], l)

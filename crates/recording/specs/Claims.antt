@@ -1,13 +1,13 @@
 -- What steps of a replay make together. The proofs are in proofs/.
 use Prim.Native.Nat.{ℕ, _+_, _<_, _≤_}
 use mathlib.Core.Path.{_≡_}
-use mathlib.Core.Bool.{true, false}
+use mathlib.Core.Bool.{true, false, cond}
 use mathlib.Core.List.{List, [], _∷_, _++_}
 use lib.ListN.{length}
 use Rattle.records.specs.Records.{recordAt}
 use Rattle.lines.specs.Lines.{Text}
 use Rattle.recording.specs.Turns.{placeAt, turns, turnsOf}
-use Rattle.recording.specs.Transcript.{left, transcript}
+use Rattle.recording.specs.Transcript.{turnsFrom, left, transcript}
 use Rattle.recording.specs.Steps.{Stretch, stepOf, stepsOf}
 use Rattle.recording.specs.declared.Place.{Place}
 
@@ -35,7 +35,18 @@ AtOnce =
     (r : List ℕ) (p : Place) (l : List ℕ) (room : ℕ)
     → length (left r p l .0) ≤ room → Finished (stepOf r p l room) (left r p l)
 
--- room for a line, the longest of which has 11 characters
+-- at most so many steps are still needed: one for each turn left, and one to find that none is
+abbrev pub stepsLeft : List ℕ → Place → List ℕ → ℕ
+stepsLeft r p l = cond (p .over) 0 (1 + length (turnsFrom r p l))
+
+-- a step with room for a line, the longest of which has 11 characters, leaves fewer
+abbrev pub Progress : Type 0
+Progress =
+    (r : List ℕ) (p : Place) (l : List ℕ) (room : ℕ)
+    → p .over ≡ false → 11 ≤ room
+    → let q = stepOf r p l room in stepsLeft r (q .place) (q .store) < stepsLeft r p l
+
+-- each with room for a line
 abbrev pub Roomy : List ℕ → Type 0
 Roomy [] = Unit
 Roomy (room ∷ rooms) = (11 ≤ room) × Roomy rooms

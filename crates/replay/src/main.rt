@@ -1,0 +1,86 @@
+// Reads a recording from standard input, replays it with all registers 0 at first, and writes its transcript to
+// standard output (01, "Recordings"). If it can't read or write, it says so on standard error and stops.
+
+use libc::{STDIN_FILENO, STDOUT_FILENO};
+use recording::Place;
+
+ghost use Prim.Native.Nat.{_+_, _≤_};
+ghost use lib.ListN.{length};
+
+// How many bytes came, and whether a read failed.
+struct Input {
+    count: usize,
+    failed: bool,
+}
+
+// one read, into the bytes from a place on
+fn read_at(bytes: &mut [u8], at: usize) -> Input
+    requires { ⌜ at ≤ length (now bytes) ⌝ }
+    ensures { λ r. ⌜ at + r .count ≤ length (now (bytes .entry)) ⌝ }
+{
+    let part = &mut bytes[at..];
+    let got = libc::read(STDIN_FILENO, part);
+    Input {
+        count: io::count(got, part),
+        failed: got < 0,
+    }
+}
+
+// all that comes, until the bytes are full
+fn read_all(bytes: &mut [u8]) -> Input
+    ensures { λ r. ⌜ r .count ≤ length (now (bytes .exit)) ⌝ }
+{
+    let mut count = 0;
+    while count < bytes.len() {
+        let more = read_at(bytes, count);
+        if more.failed {
+            return Input {
+                count,
+                failed: true,
+            };
+        }
+        if more.count == 0 {
+            return Input {
+                count,
+                failed: false,
+            };
+        }
+        count += more.count;
+    }
+    Input {
+        count,
+        failed: false,
+    }
+}
+
+// the transcript, a buffer of text after the other; false where it can't be written
+fn write_transcript(recording: &[u8]) -> bool {
+    let mut registers = [0u16; 100];
+    let mut text = [0u8; 4096];
+    let mut at = 0;
+    let mut over = false;
+    while !over {
+        let step = recording::replay(&mut registers, recording, Place { at, over }, &mut text);
+        let written = step.written;
+        if !io::write_all(STDOUT_FILENO, &text[..written]) {
+            return false;
+        }
+        at = step.place.at;
+        over = step.place.over;
+    }
+    true
+}
+
+// A recording has at most 32,768 bytes; one more shows that it is too long.
+fn main() {
+    let mut bytes = [0u8; 32769];
+    let input = read_all(&mut bytes);
+    if input.failed {
+        os::fail(b"replay: standard input");
+        return;
+    }
+    let count = input.count;
+    if !write_transcript(&bytes[..count]) {
+        os::fail(b"replay: standard output");
+    }
+}
