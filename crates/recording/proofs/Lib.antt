@@ -5,3 +5,4 @@ pub mod Claims
 pub mod Reached
 pub mod Ahead
 pub mod Whole
+pub mod Promise

@@ -1,11 +1,12 @@
 // Reads a recording from standard input, replays it with all registers 0 at first, and writes its transcript to
 // standard output (01, "Recordings"). If it can't read or write, it says so on standard error and stops.
 
-use libc::{STDIN_FILENO, STDOUT_FILENO};
+use libc::STDIN_FILENO;
+use libc::STDOUT_FILENO;
 use recording::Place;
-
 ghost use Prim.Native.Nat.{_+_, _≤_};
 ghost use lib.ListN.{length};
+ghost use Rattle.io.specs.Counts.{Counts};
 
 // How many bytes came, and whether a read failed.
 struct Input {
@@ -28,7 +29,7 @@ fn read_at(bytes: &mut [u8], at: usize) -> Input
 
 // all that comes, until the bytes are full
 fn read_all(bytes: &mut [u8]) -> Input
-    ensures { λ r. ⌜ r .count ≤ length (now (bytes .exit)) ⌝ }
+    ensures { λ r. ⌜ Counts (r .count) (now (bytes .exit)) ⌝ }
 {
     let mut count = 0;
     while count < bytes.len() {
@@ -53,14 +54,14 @@ fn read_all(bytes: &mut [u8]) -> Input
     }
 }
 
-// the transcript, a buffer of text after the other; false where it can't be written
-fn write_transcript(recording: &[u8]) -> bool {
-    let mut registers = [0u16; 100];
-    let mut text = [0u8; 4096];
+// the transcript from a store, a buffer of text after the other; false where it can't be written
+fn write_transcript(registers: &mut [u16], recording: &[u8], text: &mut [u8]) -> bool
+    requires { ⌜ 11 ≤ length (now text) ⌝ }
+{
     let mut at = 0;
     let mut over = false;
     while !over {
-        let step = recording::replay(&mut registers, recording, Place { at, over }, &mut text);
+        let step = recording::replay(registers, recording, Place { at, over }, text);
         let written = step.written;
         if !io::write_all(STDOUT_FILENO, &text[..written]) {
             return false;
@@ -80,7 +81,9 @@ fn main() {
         return;
     }
     let count = input.count;
-    if !write_transcript(&bytes[..count]) {
+    let mut registers = [0u16; 100];
+    let mut text = io::buffer();
+    if !write_transcript(&mut registers, &bytes[..count], &mut text) {
         os::fail(b"replay: standard output");
     }
 }
