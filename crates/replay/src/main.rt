@@ -4,6 +4,7 @@
 use libc::STDIN_FILENO;
 use libc::STDOUT_FILENO;
 use recording::Place;
+ghost use mathlib.Core.Path.{_≡_};
 ghost use Prim.Native.Nat.{_+_, _≤_};
 ghost use lib.ListN.{length};
 ghost use Rattle.io.specs.Counts.{Counts};
@@ -73,8 +74,14 @@ fn write_transcript(registers: &mut [u16], recording: &[u8], text: &mut [u8]) ->
 }
 
 // A recording has at most 32,768 bytes; one more shows that it is too long.
+fn room() -> [u8; 32769]
+    ensures { λ r. ⌜ 32769 ≡ length r ⌝ }
+{
+    [0; 32769]
+}
+
 fn main() {
-    let mut bytes = [0u8; 32769];
+    let mut bytes = room();
     let input = read_all(&mut bytes);
     if input.failed {
         os::fail(b"replay: standard input");
