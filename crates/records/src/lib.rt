@@ -135,10 +135,7 @@ impl Cursor {
             return Found::End;
         }
         let kind = s[at];
-        if kind == 0 {
-            return Found::Refused(Refusal::Kind);
-        }
-        if 7 < kind {
+        if kind == 0 || 7 < kind {
             return Found::Refused(Refusal::Kind);
         }
         let body = body_of(kind);
