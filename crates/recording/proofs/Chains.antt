@@ -1,6 +1,6 @@
 -- The turns of a recording are a chain: after each turn, the turns left are those from its place and store.
 -- By induction on the bound, record by record.
-use mathlib.Core.Path.{_≡_, refl, ap, sym, _∙_}
+use mathlib.Core.Path.{_≡_, refl, _∙_}
 use mathlib.Core.Bool.{Bool, true, false, cond, not}
 use mathlib.Core.List.{List, [], _∷_}
 use Prim.Native.Nat.{ℕ, zero, suc, _-_, _<_, _≤_}
@@ -8,15 +8,14 @@ use native.Mathlib.Omega.{arith}
 use lib.ListN.{length}
 use lib.Dec.{eqb, ltb}
 use borrow.Author.Tests.{eq-eqb, le-ltb, eqb-true, ltb-false, not-false}
-use Rattle.rules.specs.Paper.{Paper, X, number}
+use Rattle.rules.specs.Paper.{X, number}
 use Rattle.rules.specs.Step.{step}
 use Rattle.records.specs.Records.{recordAt}
 use Rattle.records.specs.declared.Found.{Found}
 use Rattle.records.specs.declared.Found.the-variants.{Whole, Refused, End}
 use Rattle.records.proofs.Laws.{advances}
-use Rattle.lines.specs.Lines.{lineOf}
 use Rattle.lines.proofs.Lengths.{some, most}
-use Rattle.recording.specs.Turns.{Turn, turn, stopped, placeAt, turnsOf, turns}
+use Rattle.recording.specs.Turns.{Turn, stopped, placeAt, turnsOf, turns}
 use Rattle.recording.specs.Transcript.{turnsFrom}
 use Rattle.recording.specs.declared.Place.{Place}
 use Rattle.recording.proofs.Kept.{kept}

@@ -1,20 +1,20 @@
 -- What steps make together. A step takes turns off the front of those left, so by induction over the turns its text and what is
 -- left are the whole; a step with room for a line takes at least one.
-use mathlib.Core.Path.{_≡_, refl, ap, sym, _∙_}
+use mathlib.Core.Path.{_≡_, refl, ap, _∙_}
 use mathlib.Core.Bool.{Bool, true, false, cond}
-use mathlib.Core.List.{List, [], _∷_, _++_, append-assoc, append-nil}
-use Prim.Native.Nat.{ℕ, zero, suc, _+_, _-_, _<_, _≤_}
+use mathlib.Core.List.{List, [], _∷_, _++_, append-assoc}
+use Prim.Native.Nat.{ℕ, _+_, _-_, _<_, _≤_}
 use native.Mathlib.Omega.{arith}
 use lib.ListN.{length, length-append}
 use lib.Dec.{leb}
 use borrow.Author.Tests.{le-leb}
 use Rattle.lines.specs.Lines.{Text}
 use Rattle.recording.specs.Turns.{Turn, placeAt}
-use Rattle.recording.specs.Transcript.{turnsFrom, textOf, storeAfter, left}
-use Rattle.recording.specs.Steps.{Stretch, stretch, after, fitting, stepOf, stepsOf}
+use Rattle.recording.specs.Transcript.{turnsFrom, textOf, storeAfter}
+use Rattle.recording.specs.Steps.{Stretch, stretch, after, fitting, stepsOf}
 use Rattle.recording.specs.Claims.{Together, Finished, AtOnce, stepsLeft, Progress, Roomy, InSteps}
 use Rattle.recording.specs.declared.Place.{Place}
-use Rattle.recording.proofs.Chains.{First, Chain, chain, count}
+use Rattle.recording.proofs.Chains.{Chain, chain, count}
 
 -- the turns that a step leaves
 rest : ℕ → List Turn → List Turn

@@ -1,9 +1,9 @@
 -- No event changes how many words the store has: every change of a definition is a `set`.
-use mathlib.Core.Path.{_≡_, refl, _∙_}
-use mathlib.Core.Bool.{Bool, true, false, cond, not, _||_}
+use mathlib.Core.Path.{_≡_, refl}
+use mathlib.Core.Bool.{Bool, true, false, cond}
 use mathlib.Core.List.{List}
 use Prim.Native.Nat.{ℕ}
-use lib.ListN.{length, set, length-set}
+use lib.ListN.{length, length-set}
 use Rattle.rules.specs.Paper.{Paper}
 use Rattle.rules.specs.References.{referred, illegalMode, examined, ruled}
 use Rattle.rules.specs.Registers.{writtenAt}

@@ -1,11 +1,11 @@
 -- What a caller has from the promise of `replay`: the text lies within the output, and fewer steps are left.
-use mathlib.Core.Path.{_≡_, ap, sym, _∙_}
+use mathlib.Core.Path.{_≡_, ap}
 use mathlib.Core.Bool.{false}
 use mathlib.Core.List.{List, _++_}
 use Prim.Native.Nat.{ℕ, _<_, _≤_}
 use native.Mathlib.Omega.{arith}
 use lib.ListN.{length, drop, length-append}
-use Rattle.recording.specs.Steps.{Stretch, stepOf, replayed}
+use Rattle.recording.specs.Steps.{stepOf, replayed}
 use Rattle.recording.specs.Claims.{stepsLeft}
 use Rattle.recording.specs.declared.Place.{Place}
 use Rattle.recording.specs.declared.Stepped.{Stepped}

@@ -1,4 +1,5 @@
 pub mod Turns
 pub mod Transcript
 pub mod Steps
+pub mod Parts
 pub mod Claims

@@ -1,13 +1,11 @@
 -- A replay in steps: each writes whole lines into its output, while the next one fits.
-use Prim.Native.Nat.{ℕ, _+_, _-_}
-use mathlib.Core.Bool.{true, false, cond, not}
+use Prim.Native.Nat.{ℕ, _-_}
+use mathlib.Core.Bool.{true, cond}
 use mathlib.Core.List.{List, [], _∷_, _++_}
 use lib.ListN.{length, drop}
-use lib.Dec.{leb, eqb}
-use Rattle.rules.specs.Step.{step}
-use Rattle.rules.specs.declared.Event.{Event}
-use Rattle.lines.specs.Lines.{Text, lineOf, placed}
-use Rattle.recording.specs.Turns.{Turn, placeAt, turns}
+use lib.Dec.{leb}
+use Rattle.lines.specs.Lines.{Text}
+use Rattle.recording.specs.Turns.{Turn, placeAt}
 use Rattle.recording.specs.Transcript.{turnsFrom}
 use Rattle.recording.specs.declared.Place.{Place}
 use Rattle.recording.specs.declared.Stepped.{Stepped}
@@ -39,24 +37,6 @@ stepOf r p l room = fitting room p l (turnsFrom r p l)
 -- what a step says of a stretch, the store afterwards, and the output afterwards: the text, and beyond it the bytes that were there
 abbrev pub shown : Stretch → List ℕ → Stepped × List ℕ × List ℕ
 shown q out = (record { place = q .place; written = length (q .text) }, q .store, q .text ++ drop (length (q .text)) out)
-
--- a step that goes record by record, from a place on
-abbrev pub ahead : List ℕ → ℕ → List ℕ → ℕ → Stretch
-ahead r at l room = fitting room (placeAt at false) l (turns (length r) r at l)
-
--- an event and its line at a place of the output, where the line fits: how many bytes are written, the store and the output afterwards
-unfoldable pub taken : List ℕ → Event → List ℕ → ℕ → ℕ × List ℕ × List ℕ
-taken l e out written =
-    let s = step l e in
-    let line = lineOf (s .0) in
-    let put = placed out written line in
-    cond (leb (length line) (length out - written)) (put .0, s .1, put .1) (0, l, out)
-
--- a step's last line at a place of the output, after which it is over, if the line fits
-unfoldable pub ended : List ℕ → ℕ → ℕ → Text → Stepped × List ℕ
-ended out at written line =
-    let put = placed out written line in
-    (record { place = placeAt at (not (eqb (put .0) 0)); written = written + put .0 }, put .1)
 
 unfoldable pub replayed : List ℕ → List ℕ → Place → List ℕ → Stepped × List ℕ × List ℕ
 replayed l r p out = shown (stepOf r p l (length out)) out

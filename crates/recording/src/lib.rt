@@ -13,7 +13,8 @@ ghost use lib.Dec.{leb};
 ghost use Rattle.rules.specs.Paper.{X, number};
 ghost use Rattle.rules.specs.Step.{step};
 ghost use Rattle.lines.specs.Lines.{lineOf};
-ghost use Rattle.recording.specs.Steps.{taken, ended, ahead, shown, replayed};
+ghost use Rattle.recording.specs.Steps.{shown, replayed};
+ghost use Rattle.recording.specs.Parts.{taken, ended, ahead};
 
 // How far a replay came: the place of the next record, and whether it is over.
 pub struct Place {

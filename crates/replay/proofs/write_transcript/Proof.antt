@@ -1,6 +1,5 @@
 -- The text written lies within its buffer, and each step leaves fewer: so the loop goes on to the end of the transcript.
 use mathlib.Core.Path.{_≡_, refl, sym, _∙_}
-use Prim.Native.Nat.{_≤_}
 use native.Mathlib.Omega.{arith}
 use lib.ListN.{length}
 use lib.Seq.{length-take-le}
