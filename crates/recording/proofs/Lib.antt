@@ -6,3 +6,4 @@ pub mod Reached
 pub mod Ahead
 pub mod Whole
 pub mod Promise
+pub mod WholeCase

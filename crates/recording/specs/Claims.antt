@@ -3,9 +3,10 @@ use Prim.Native.Nat.{ℕ, _+_, _<_, _≤_}
 use mathlib.Core.Path.{_≡_}
 use mathlib.Core.Bool.{true, false, cond}
 use mathlib.Core.List.{List, [], _∷_, _++_}
-use lib.ListN.{length}
+use lib.ListN.{length, replicate}
 use Rattle.records.specs.Records.{recordAt}
-use Rattle.lines.specs.Lines.{Text}
+use Rattle.rules.specs.Paper.{G, R, D}
+use Rattle.lines.specs.Lines.{Text, lineOf}
 use Rattle.recording.specs.Turns.{placeAt, turns, turnsOf}
 use Rattle.recording.specs.Transcript.{turnsFrom, left, transcript}
 use Rattle.recording.specs.Steps.{Stretch, stepOf, stepsOf}
@@ -56,3 +57,17 @@ abbrev pub InSteps : Type 0
 InSteps =
     (r : List ℕ) (l : List ℕ) (rooms : List ℕ)
     → Roomy rooms → length r + 1 < length rooms → Finished (stepsOf r (placeAt 0 false) l rooms) (transcript r l)
+
+-- the whole case of 01, from all registers 0
+abbrev pub wholeCase : List ℕ
+wholeCase =
+    0x03 ∷ 0xEE ∷ 0xF4 ∷ 0x03 ∷ 0x2E ∷ 0x07
+    ∷ 0x03 ∷ 0xCE ∷ 0xF4 ∷ 0x03 ∷ 0x06 ∷ 0x7F
+    ∷ 0x03 ∷ 0x7A ∷ 0xFF ∷ 0x03 ∷ 0x01 ∷ 0x00
+    ∷ 0x01 ∷ 0x00 ∷ 0x00 ∷ 0x00 ∷ 0x00 ∷ 0x2E ∷ 0xEF
+    ∷ 0x02 ∷ 0xCE ∷ 0xF4 ∷ 0x03 ∷ []
+
+abbrev pub WholeCase : Type 0
+WholeCase =
+    transcript wholeCase (replicate 100 0) .0
+    ≡ lineOf D ++ lineOf D ++ lineOf D ++ lineOf (G 0o355256 false) ++ lineOf (R 0o077406)
