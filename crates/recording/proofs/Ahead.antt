@@ -19,11 +19,11 @@ use Rattle.records.specs.declared.Found.the-variants.{Whole, Refused, End}
 use Rattle.lines.specs.Lines.{Text, lineOf, placed}
 use Rattle.lines.proofs.Output.{fits, unfit}
 use Rattle.lines.proofs.Lengths.{some}
-use Rattle.recording.specs.Turns.{placeAt, stopped}
-use Rattle.recording.specs.Steps.{Stretch, stretch, after, fitting, shown}
+use Rattle.transcript.specs.Turns.{placeAt, stopped}
+use Rattle.transcript.specs.Steps.{Stretch, stretch, after, fitting, shown}
 use Rattle.recording.specs.Parts.{taken, ahead, ended}
-use Rattle.recording.specs.declared.Stepped.{Stepped}
-use Rattle.recording.proofs.Bound.{every-record}
+use Rattle.transcript.specs.declared.Stepped.{Stepped}
+use Rattle.transcript.proofs.Bound.{every-record}
 use Rattle.recording.proofs.Reached.{Reached, begin, write, finish}
 
 abbrev Outcome : Type 0

@@ -6,8 +6,8 @@ use native.Mathlib.Omega.{arith}
 use lib.ListN.{length, take, drop, length-append, take-append-drop}
 use lib.Seq.{sets, sets-eq, length-sets, take-at, drop-at, drop-drop, length-take-le}
 use Rattle.lines.specs.Lines.{Text}
-use Rattle.recording.specs.Steps.{Stretch, stretch, after, shown}
-use Rattle.recording.specs.declared.Place.{Place}
+use Rattle.transcript.specs.Steps.{Stretch, stretch, after, shown}
+use Rattle.transcript.specs.declared.Place.{Place}
 
 pub record Reached (whole : Stretch) (out₀ out : List ℕ) (n : ℕ) (q : Stretch) : Type 0 where
   pub text : whole ≡ after (take n out) q

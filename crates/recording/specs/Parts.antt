@@ -7,9 +7,9 @@ use lib.Dec.{leb, eqb}
 use Rattle.rules.specs.Step.{step}
 use Rattle.rules.specs.declared.Event.{Event}
 use Rattle.lines.specs.Lines.{Text, lineOf, placed}
-use Rattle.recording.specs.Turns.{placeAt, turns}
-use Rattle.recording.specs.Steps.{Stretch, fitting}
-use Rattle.recording.specs.declared.Stepped.{Stepped}
+use Rattle.transcript.specs.Turns.{placeAt, turns}
+use Rattle.transcript.specs.Steps.{Stretch, fitting}
+use Rattle.transcript.specs.declared.Stepped.{Stepped}
 
 -- a step that goes record by record, from a place on
 abbrev pub ahead : List ℕ → ℕ → List ℕ → ℕ → Stretch

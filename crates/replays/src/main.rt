@@ -2,7 +2,7 @@
 // Above each stand its lines, worked out by hand from document 01; the file `stdout` has them all.
 
 use libc::STDOUT_FILENO;
-use recording::Place;
+use transcript::Place;
 ghost use mathlib.Core.Path.{_≡_};
 ghost use lib.ListN.{length};
 

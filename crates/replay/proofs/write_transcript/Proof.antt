@@ -5,9 +5,9 @@ use lib.ListN.{length}
 use lib.Seq.{length-take-le}
 use borrow.Author.Needs.{needs}
 use borrow.Author.Tests.{not-true}
-use Rattle.recording.specs.Turns.{placeAt}
-use Rattle.recording.specs.Claims.{stepsLeft}
-use Rattle.recording.proofs.Promise.{within, fewer}
+use Rattle.transcript.specs.Turns.{placeAt}
+use Rattle.transcript.specs.Claims.{stepsLeft}
+use Rattle.transcript.proofs.Promise.{within, fewer}
 use Rattle.replay.proofs.write_transcript.Statement.{statement}
 use Rattle.replay.proofs.write_transcript.Tie as tie
 

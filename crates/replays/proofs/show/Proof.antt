@@ -3,7 +3,7 @@ use mathlib.Core.Path.{sym}
 use native.Mathlib.Omega.{arith}
 use lib.Seq.{length-take-le}
 use borrow.Author.Needs.{needs}
-use Rattle.recording.proofs.Promise.{within}
+use Rattle.transcript.proofs.Promise.{within}
 use Rattle.replays.proofs.show.Statement.{statement}
 use Rattle.replays.proofs.show.Tie as tie
 

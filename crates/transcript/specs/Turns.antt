@@ -8,7 +8,7 @@ use Rattle.records.specs.Records.{recordAt}
 use Rattle.records.specs.declared.Found.{Found}
 use Rattle.records.specs.declared.Found.the-variants.{Whole, Refused, End}
 use Rattle.lines.specs.Lines.{Text, lineOf}
-use Rattle.recording.specs.declared.Place.{Place}
+use Rattle.transcript.specs.declared.Place.{Place}
 
 pub record Turn : Type 0 where
   pub line : Text

@@ -5,11 +5,11 @@ use mathlib.Core.List.{List, _++_}
 use Prim.Native.Nat.{ℕ, _<_, _≤_}
 use native.Mathlib.Omega.{arith}
 use lib.ListN.{length, drop, length-append}
-use Rattle.recording.specs.Steps.{stepOf, replayed}
-use Rattle.recording.specs.Claims.{stepsLeft}
-use Rattle.recording.specs.declared.Place.{Place}
-use Rattle.recording.specs.declared.Stepped.{Stepped}
-use Rattle.recording.proofs.Claims.{progress}
+use Rattle.transcript.specs.Steps.{stepOf, replayed}
+use Rattle.transcript.specs.Claims.{stepsLeft}
+use Rattle.transcript.specs.declared.Place.{Place}
+use Rattle.transcript.specs.declared.Stepped.{Stepped}
+use Rattle.transcript.proofs.Claims.{progress}
 
 abbrev Kept : Type 0
 Kept = Stepped × List ℕ × List ℕ

@@ -7,10 +7,10 @@ use lib.ListN.{length, replicate}
 use Rattle.records.specs.Records.{recordAt}
 use Rattle.rules.specs.Paper.{G, R, D}
 use Rattle.lines.specs.Lines.{Text, lineOf}
-use Rattle.recording.specs.Turns.{placeAt, turns, turnsOf}
-use Rattle.recording.specs.Transcript.{turnsFrom, left, transcript}
-use Rattle.recording.specs.Steps.{Stretch, stepOf, stepsOf}
-use Rattle.recording.specs.declared.Place.{Place}
+use Rattle.transcript.specs.Turns.{placeAt, turns, turnsOf}
+use Rattle.transcript.specs.Transcript.{turnsFrom, left, transcript}
+use Rattle.transcript.specs.Steps.{Stretch, stepOf, stepsOf}
+use Rattle.transcript.specs.declared.Place.{Place}
 
 -- the bound on the number of turns cuts nothing off: the turns from a place are its record's, and those from the next place
 abbrev pub EveryRecord : Type 0

@@ -5,8 +5,8 @@ use mathlib.Core.List.{List, [], _∷_, _++_}
 use lib.ListN.{length}
 use lib.Dec.{ltb, eqb}
 use Rattle.lines.specs.Lines.{Text}
-use Rattle.recording.specs.Turns.{Turn, placeAt, stopped, turns}
-use Rattle.recording.specs.declared.Place.{Place}
+use Rattle.transcript.specs.Turns.{Turn, placeAt, stopped, turns}
+use Rattle.transcript.specs.declared.Place.{Place}
 
 -- what is left of a recording: nothing if the replay is over; 1 and then 13 are tested first; then record by record
 unfoldable pub turnsFrom : List ℕ → Place → List ℕ → List Turn

@@ -5,10 +5,10 @@ use mathlib.Core.List.{List, [], _∷_, _++_}
 use lib.ListN.{length, drop}
 use lib.Dec.{leb}
 use Rattle.lines.specs.Lines.{Text}
-use Rattle.recording.specs.Turns.{Turn, placeAt}
-use Rattle.recording.specs.Transcript.{turnsFrom}
-use Rattle.recording.specs.declared.Place.{Place}
-use Rattle.recording.specs.declared.Stepped.{Stepped}
+use Rattle.transcript.specs.Turns.{Turn, placeAt}
+use Rattle.transcript.specs.Transcript.{turnsFrom}
+use Rattle.transcript.specs.declared.Place.{Place}
+use Rattle.transcript.specs.declared.Stepped.{Stepped}
 
 -- a stretch of a replay: the text written, how far it came, and the store then
 pub record Stretch : Type 0 where

@@ -8,9 +8,9 @@ use Rattle.rules.specs.Refusals.{refusalOf}
 use Rattle.rules.specs.Step.{step, accepted}
 use Rattle.records.specs.Records.{eventOf, recordAt}
 use Rattle.lines.specs.Lines.{lineOf}
-use Rattle.recording.specs.Turns.{turns}
-use Rattle.recording.specs.Transcript.{turnsFrom}
-use Rattle.recording.specs.Claims.{WholeCase}
+use Rattle.transcript.specs.Turns.{turns}
+use Rattle.transcript.specs.Transcript.{turnsFrom}
+use Rattle.transcript.specs.Claims.{WholeCase}
 
 pub whole-case : WholeCase
 unfolding turnsFrom turns recordAt eventOf lineOf step accepted refusalOf referred illegalMode examined ruled writtenAt lengthError registerAt

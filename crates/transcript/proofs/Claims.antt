@@ -9,12 +9,12 @@ use lib.ListN.{length, length-append}
 use lib.Dec.{leb}
 use borrow.Author.Tests.{le-leb}
 use Rattle.lines.specs.Lines.{Text}
-use Rattle.recording.specs.Turns.{Turn, placeAt}
-use Rattle.recording.specs.Transcript.{turnsFrom, textOf, storeAfter}
-use Rattle.recording.specs.Steps.{Stretch, stretch, after, fitting, stepsOf}
-use Rattle.recording.specs.Claims.{Together, Finished, AtOnce, stepsLeft, Progress, Roomy, InSteps}
-use Rattle.recording.specs.declared.Place.{Place}
-use Rattle.recording.proofs.Chains.{Chain, chain, count}
+use Rattle.transcript.specs.Turns.{Turn, placeAt}
+use Rattle.transcript.specs.Transcript.{turnsFrom, textOf, storeAfter}
+use Rattle.transcript.specs.Steps.{Stretch, stretch, after, fitting, stepsOf}
+use Rattle.transcript.specs.Claims.{Together, Finished, AtOnce, stepsLeft, Progress, Roomy, InSteps}
+use Rattle.transcript.specs.declared.Place.{Place}
+use Rattle.transcript.proofs.Chains.{Chain, chain, count}
 
 -- the turns that a step leaves
 rest : ℕ → List Turn → List Turn

@@ -12,8 +12,8 @@ use Rattle.records.specs.Records.{recordAt}
 use Rattle.records.specs.declared.Found.{Found}
 use Rattle.records.specs.declared.Found.the-variants.{Whole, Refused, End}
 use Rattle.records.proofs.Laws.{at-end, advances}
-use Rattle.recording.specs.Turns.{Turn, turn, turnsOf, turns}
-use Rattle.recording.specs.Claims.{EveryRecord}
+use Rattle.transcript.specs.Turns.{Turn, turn, turnsOf, turns}
+use Rattle.transcript.specs.Claims.{EveryRecord}
 
 pub none-left : (n : ℕ) (r : List ℕ) (at : ℕ) (l : List ℕ) → length r ≤ at → turns n r at l ≡ []
 unfolding turns

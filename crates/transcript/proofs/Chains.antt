@@ -15,11 +15,11 @@ use Rattle.records.specs.declared.Found.{Found}
 use Rattle.records.specs.declared.Found.the-variants.{Whole, Refused, End}
 use Rattle.records.proofs.Laws.{advances}
 use Rattle.lines.proofs.Lengths.{some, most}
-use Rattle.recording.specs.Turns.{Turn, stopped, placeAt, turnsOf, turns}
-use Rattle.recording.specs.Transcript.{turnsFrom}
-use Rattle.recording.specs.declared.Place.{Place}
-use Rattle.recording.proofs.Kept.{kept}
-use Rattle.recording.proofs.Bound.{any-bound, few}
+use Rattle.transcript.specs.Turns.{Turn, stopped, placeAt, turnsOf, turns}
+use Rattle.transcript.specs.Transcript.{turnsFrom}
+use Rattle.transcript.specs.declared.Place.{Place}
+use Rattle.transcript.proofs.Kept.{kept}
+use Rattle.transcript.proofs.Bound.{any-bound, few}
 
 -- the first turn of those left, with a line that is neither empty nor longer than eleven
 pub record First (r : List ℕ) (p : Place) (l : List ℕ) (t : Turn) (ts : List Turn) : Type 0 where
