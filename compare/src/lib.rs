@@ -1,0 +1,15 @@
+//! The proved KT11-C, a static library, beside the independent Rust version:
+//! what both are run on, and how what they do is compared and timed.
+
+pub mod codes;
+pub mod draw;
+pub mod edges;
+pub mod fields;
+pub mod history;
+pub mod options;
+pub mod print;
+pub mod proved;
+pub mod random;
+pub mod readings;
+pub mod shrink;
+pub mod slips;
