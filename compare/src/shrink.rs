@@ -1,14 +1,22 @@
 //! Making a failing case smaller for as long as it still fails.
 
-use crate::history::History;
+use crate::history::{History, Pair};
+
+/// The most cases that are tried to make a list shorter.
+const TRIES: usize = 2_000;
 
 /// Drops runs of items, long runs first, while `fails` still holds.
 pub fn shrink_list<T: Clone>(items: &mut Vec<T>, mut fails: impl FnMut(&[T]) -> bool) {
     let mut run = items.len().max(1);
+    let mut tries = 0;
     loop {
         let mut dropped = false;
         let mut at = 0;
         while at < items.len() {
+            tries += 1;
+            if tries > TRIES {
+                return;
+            }
             let end = (at + run).min(items.len());
             let rest = [&items[..at], &items[end..]].concat();
             if fails(&rest) {
@@ -26,20 +34,38 @@ pub fn shrink_list<T: Clone>(items: &mut Vec<T>, mut fails: impl FnMut(&[T]) -> 
     }
 }
 
-/// The shortest history found that still has a difference: the events after it
-/// and those not needed dropped, then every word and bit of the store cleared that can be.
+/// The shortest history found that still has a difference: the last event on the
+/// store before it or, if that is not enough, the events that are needed; then
+/// every word and bit of the store cleared that can be.
 pub fn shrink(history: &History) -> History {
     let mut small = history.clone();
     if let Some((at, _)) = small.difference() {
         small.events.truncate(at + 1);
     }
-    let store = small.store.clone();
-    shrink_list(&mut small.events, |events| fails(&store, events));
+    match last_alone(&small) {
+        Some(alone) => small = alone,
+        None => {
+            let store = small.store.clone();
+            shrink_list(&mut small.events, |events| fails(&store, events));
+        }
+    }
     clear_words(&mut small);
     clear_bits(&mut small);
-    let store = small.store.clone();
-    shrink_list(&mut small.events, |events| fails(&store, events));
     small
+}
+
+/// The last event on the store as the others leave it, if there is a difference then.
+fn last_alone(history: &History) -> Option<History> {
+    let (&last, others) = history.events.split_last()?;
+    let mut pair = Pair::new(&history.store);
+    for &event in others {
+        pair.step(event).ok()?;
+    }
+    let alone = History {
+        store: pair.store().to_vec(),
+        events: vec![last],
+    };
+    alone.difference().is_some().then_some(alone)
 }
 
 fn fails(store: &[u16], events: &[peer::Event]) -> bool {
