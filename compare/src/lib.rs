@@ -10,6 +10,7 @@ pub mod options;
 pub mod print;
 pub mod programs;
 pub mod proved;
+pub mod race;
 pub mod random;
 pub mod readings;
 pub mod recordings;
