@@ -8,13 +8,13 @@ const USAGE: &str = "race [--rounds N] [--seed N] [--row WORDS]";
 
 fn main() {
     let mut options = Options::new(USAGE);
-    let rounds = options.number("--rounds", 41).max(1);
+    let rounds = options.number("--rounds", 31).max(1);
     let seed = options.number("--seed", 1);
     let only = options.text("--row").unwrap_or_default();
     options.rest(0);
 
     println!(
-        "Nanoseconds an event, medians of {rounds} rounds; the sides take turns in each round."
+        "Nanoseconds an event: the least of the turns of a round, the median of {rounds} rounds."
     );
     println!(
         "Both are optimised, and called through pointers with the same arguments and answers."

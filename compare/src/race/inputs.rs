@@ -13,6 +13,7 @@ const EVENTS: usize = 1 << 15;
 pub fn rows(seed: u64) -> Vec<Row> {
     let random = &mut Random::new(seed);
     let mut rows = vec![
+        in_order(random),
         row(
             "references granted",
             open(random, 0o6, 0o000001),
@@ -93,6 +94,28 @@ fn valid(random: &mut Random) -> Reference {
     }
 }
 
+/// One mode runs through its addresses, every fourth time to data that it writes:
+/// the branches of both sides are foreseen.
+fn in_order(random: &mut Random) -> Row {
+    let references = (0..EVENTS).map(|n| {
+        let data = u32::from(n % 4 == 3);
+        Reference {
+            mode: 3,
+            space: data,
+            access: data,
+            phase: 0,
+            va: (2 * n) as u16,
+        }
+    });
+    let store = open(random, 0o6, 0o000001);
+    row(
+        "references granted, in order",
+        store,
+        None,
+        references.collect(),
+    )
+}
+
 /// Mode 2 among the others, and now and then a number that is refused.
 fn any(random: &mut Random) -> Reference {
     let wrong = u32::from(random.percent(2));
@@ -160,7 +183,9 @@ fn registers(random: &mut Random) -> Vec<Row> {
         before: None,
         work,
     };
+    let in_order = (0..EVENTS).map(|n| address_of(n % WORDS)).collect();
     vec![
+        named("register reads, in order", Work::Reads(in_order)),
         named("register reads", Work::Reads(list(random, register))),
         named("register reads refused", Work::Reads(list(random, nowhere))),
         named("register writes", Work::Writes(list(random, write))),

@@ -6,8 +6,9 @@ use std::time::Instant;
 use crate::race::rows::Row;
 use crate::race::sides::{Side, EMPTY, PEER, PROVED};
 
-/// How often a row's events are run through in one timing.
-const PASSES: usize = 1;
+/// How often each side is timed in a round; the least time counts, as what else
+/// the machine does can only add to it.
+const TURNS: usize = 5;
 
 /// What the rounds of a row gave: nanoseconds an event, and proved over peer.
 pub struct Times {
@@ -24,23 +25,16 @@ pub struct Spread {
     pub max: f64,
 }
 
-/// Times a row for so many rounds. The two sides take turns, and turns at being first.
+/// Times a row for so many rounds.
 pub fn time(row: &Row, rounds: usize) -> Times {
     let (mut proved, mut peer, mut empty) = (Vec::new(), Vec::new(), Vec::new());
     let mut ratios = Vec::new();
-    for round in 0..rounds {
-        let (a, b) = if round % 2 == 0 {
-            let a = once(row, &PROVED);
-            (a, once(row, &PEER))
-        } else {
-            let b = once(row, &PEER);
-            (once(row, &PROVED), b)
-        };
-        assert!(a.sum == b.sum && a.store == b.store, "the two sides differ");
-        proved.push(a.nanoseconds);
-        peer.push(b.nanoseconds);
-        empty.push(once(row, &EMPTY).nanoseconds);
-        ratios.push(a.nanoseconds / b.nanoseconds);
+    for _ in 0..rounds {
+        let [a, b, c] = round(row);
+        proved.push(a);
+        peer.push(b);
+        empty.push(c);
+        ratios.push(a / b);
     }
     Times {
         proved: spread(proved).median,
@@ -48,6 +42,20 @@ pub fn time(row: &Row, rounds: usize) -> Times {
         empty: spread(empty).median,
         ratios: spread(ratios),
     }
+}
+
+/// The least nanoseconds an event of each side, which take turns.
+fn round(row: &Row) -> [f64; 3] {
+    let mut least = [f64::INFINITY; 3];
+    for _ in 0..TURNS {
+        let turn = [&PROVED, &PEER, &EMPTY].map(|side| once(row, side));
+        let [a, b, _] = &turn;
+        assert!(a.sum == b.sum && a.store == b.store, "the two sides differ");
+        for (least, once) in least.iter_mut().zip(&turn) {
+            *least = least.min(once.nanoseconds);
+        }
+    }
+    least
 }
 
 struct Once {
@@ -60,15 +68,12 @@ struct Once {
 fn once(row: &Row, side: &Side) -> Once {
     let side = black_box(*side);
     let mut store = row.store;
-    let mut sum = 0u32;
     let begin = Instant::now();
-    for _ in 0..PASSES {
-        sum = sum.wrapping_add(row.run(&side, &mut store));
-    }
+    let sum = black_box(row.run(&side, &mut store));
     let taken = begin.elapsed();
     Once {
-        nanoseconds: taken.as_nanos() as f64 / (PASSES * row.count()) as f64,
-        sum: black_box(sum),
+        nanoseconds: taken.as_nanos() as f64 / row.count() as f64,
+        sum,
         store,
     }
 }
