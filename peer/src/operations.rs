@@ -9,6 +9,7 @@ use crate::registers::Store;
 use crate::status;
 
 /// Lends the store on if it has 100 words; otherwise refusal 1.
+#[inline(always)]
 fn lend(store: &mut [u16], operation: impl FnOnce(&mut Store) -> Answer) -> Answer {
     match <&mut Store>::try_from(store) {
         Ok(store) => operation(store),
@@ -22,6 +23,7 @@ pub fn apply(store: &mut [u16], event: Event) -> Answer {
 }
 
 /// A reference: granted, aborted or refused.
+#[inline(always)]
 pub fn reference(
     store: &mut [u16],
     mode: u32,
@@ -34,6 +36,7 @@ pub fn reference(
 }
 
 /// Register read: the implemented bits of the register at an address.
+#[inline(always)]
 pub fn read_register(store: &[u16], address: u32) -> Answer {
     match <&Store>::try_from(store) {
         Ok(store) => register_words::read(store, address),
@@ -42,6 +45,7 @@ pub fn read_register(store: &[u16], address: u32) -> Answer {
 }
 
 /// Register write.
+#[inline(always)]
 pub fn write_register(store: &mut [u16], address: u32, value: u16) -> Answer {
     lend(store, |store| register_words::write(store, address, value))
 }

@@ -13,19 +13,7 @@ fn main() {
     let only = options.text("--row").unwrap_or_default();
     options.rest(0);
 
-    println!(
-        "Nanoseconds an event: the least of the turns of a round, the median of {rounds} rounds."
-    );
-    println!(
-        "Both are optimised, and called through pointers with the same arguments and answers."
-    );
-    println!("Before each timing the store is put back as it was; no other buffer is in use.");
-    println!("\"call\" is the loop with a function that does nothing, and is part of both times.");
-    println!();
-    println!(
-        "{:34}  proved    peer    call  proved / peer (min to max)",
-        ""
-    );
+    print_head(rounds);
     for row in rows(seed) {
         if row.name.contains(&only) {
             print_row(row.name, &time(&row, rounds as usize));
@@ -33,10 +21,28 @@ fn main() {
     }
 }
 
+fn print_head(rounds: u64) {
+    println!("Nanoseconds an event: the least of a round's turns, the median of {rounds} rounds.");
+    println!("Both sides are optimised, and called through pointers with the same arguments.");
+    println!("peer: it answers the same numbers. own: it answers its own enum, with no encoding.");
+    println!("call: the loop with a function that does nothing; it is part of every time.");
+    println!("Before each timing the store is put back as it was; no other buffer is in use.");
+    println!("proved / peer and proved / own are the median, least and greatest of the rounds.");
+    println!();
+    print!("{:34}  proved    peer     own    call", "");
+    println!("      proved / peer         proved / own");
+}
+
 fn print_row(name: &str, times: &Times) {
-    let ratios = &times.ratios;
-    println!(
-        "{name:34}  {:6.2}  {:6.2}  {:6.2}  {:13.2} ({:.2} to {:.2})",
-        times.proved, times.peer, times.empty, ratios.median, ratios.min, ratios.max
-    );
+    print!("{name:34}");
+    for time in [times.proved, times.peer, times.own, times.empty] {
+        print!("  {time:6.2}");
+    }
+    for ratio in [&times.to_peer, &times.to_own] {
+        print!(
+            "   {:5.2} ({:.2} to {:.2})",
+            ratio.median, ratio.min, ratio.max
+        );
+    }
+    println!();
 }

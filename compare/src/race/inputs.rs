@@ -4,7 +4,8 @@ use peer::{Answer, Event};
 
 use crate::draw;
 use crate::fields::{address_of, PDR, SR0, SR1, SR3, WORDS};
-use crate::race::rows::{Reference, Row, Work};
+use crate::race::rows::{any, Reference, Row, Work};
+use crate::race::sides::OWN;
 use crate::random::Random;
 
 /// Events in a row.
@@ -33,7 +34,7 @@ pub fn rows(seed: u64) -> Vec<Row> {
             "references, mixed",
             pages(random),
             Some((SR0, 0o001001)),
-            list(random, any),
+            list(random, mixed),
         ),
     ];
     rows.extend(registers(random));
@@ -117,7 +118,7 @@ fn in_order(random: &mut Random) -> Row {
 }
 
 /// Mode 2 among the others, and now and then a number that is refused.
-fn any(random: &mut Random) -> Reference {
+fn mixed(random: &mut Random) -> Reference {
     let wrong = u32::from(random.percent(2));
     Reference {
         mode: random.below(4) + 4 * wrong,
@@ -159,9 +160,7 @@ fn aborted(random: &mut Random, name: &'static str, before: Option<(usize, u16)>
     let store = pages(random);
     let draw = |random: &mut Random| loop {
         let r = valid(random);
-        let mut copy = store;
-        let answer = peer::reference(&mut copy, r.mode, r.space, r.access, r.phase, r.va);
-        if let Answer::Aborted { .. } = answer {
+        if let Answer::Aborted { .. } = any(&OWN, &mut store.clone(), r.event()) {
             return r;
         }
     };
@@ -228,7 +227,7 @@ fn everything(random: &mut Random) -> Row {
     let mut events = Vec::with_capacity(EVENTS);
     for _ in 0..EVENTS {
         let event = draw::event(random, &now);
-        peer::apply(&mut now, event);
+        any(&OWN, &mut now, event);
         events.push(event);
     }
     Row {
