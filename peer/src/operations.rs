@@ -9,7 +9,6 @@ use crate::registers::Store;
 use crate::status;
 
 /// Lends the store on if it has 100 words; otherwise refusal 1.
-#[inline(always)]
 fn lend(store: &mut [u16], operation: impl FnOnce(&mut Store) -> Answer) -> Answer {
     match <&mut Store>::try_from(store) {
         Ok(store) => operation(store),
@@ -32,7 +31,10 @@ pub fn reference(
     phase: u32,
     va: u16,
 ) -> Answer {
-    lend(store, |store| refer(store, mode, space, access, phase, va))
+    match <&mut Store>::try_from(store) {
+        Ok(store) => refer(store, mode, space, access, phase, va),
+        Err(_) => Answer::Refused(refusals::STORE_LENGTH),
+    }
 }
 
 /// Register read: the implemented bits of the register at an address.
