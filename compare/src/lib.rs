@@ -2,6 +2,7 @@
 //! what both are run on, and how what they do is compared and timed.
 
 pub mod codes;
+mod counts;
 pub mod draw;
 pub mod edges;
 pub mod fields;

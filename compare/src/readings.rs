@@ -75,6 +75,7 @@ pub fn aborted(nonresident: bool, length: bool, readonly: bool) -> Answer {
 pub fn readings() -> Vec<Reading> {
     let mut all = addresses();
     all.extend(lengths());
+    all.extend(two_flags());
     all.extend(status());
     all
 }
@@ -150,6 +151,12 @@ fn lengths() -> Vec<Reading> {
                 .map(|va| step(kernel(READ, va), granted(u32::from(va)), &[]))
                 .collect(),
         ),
+    ]
+}
+
+fn two_flags() -> Vec<Reading> {
+    let page = |pdr| [(SR0, 0o000001), (PDR, pdr)];
+    vec![
         reading(
             "key 0 past the length: flags 140000",
             &page(0o000000),
