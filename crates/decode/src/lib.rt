@@ -1,9 +1,9 @@
-// The register at an address (01, "Register addresses"), found by ranges.
+// The register at an address (01, "Register addresses"), found by the part of the I/O page it lies in.
 
 ghost use mathlib.Core.Path.{_≡_};
 ghost use Prim.Native.Nat.{_<_, _≤_};
 ghost use Rattle.rules.specs.Addresses.{registerAt, inRegisters};
-ghost use Rattle.decode.specs.Ranges.{inMode};
+ghost use Rattle.decode.specs.Parts.{inMode, statusAt};
 
 // Among a mode's 32 words, 16 PDRs and then 16 PARs, the place of the one at k; the mode's pages begin at first.
 fn in_mode(first: usize, k: u32) -> usize
@@ -16,35 +16,44 @@ fn in_mode(first: usize, k: u32) -> usize
     first + k as usize - 16
 }
 
-// The place of the register at an address, 100 where there is none.
+// SR0 to SR3, by their own addresses.
+fn status_at(address: u32) -> usize
+    ensures { λ p. ⌜ p ≡ statusAt address ⌝ }
+{
+    if address == 0o777572 {
+        return 96;
+    }
+    if address == 0o777574 {
+        return 97;
+    }
+    if address == 0o777576 {
+        return 98;
+    }
+    if address == 0o772516 {
+        return 99;
+    }
+    100
+}
+
+// The place of the register at an address, 100 where there is none. Each mode has 64 bytes of addresses.
 pub fn register_at(address: u32) -> usize
     ensures { λ p. ⌜ p ≡ registerAt address ⌝ }
 {
     if address % 2 == 1 {
         return 100;
     }
-    if address < 0o772200 {
-        return 100;
+    let part = address / 64;
+    let k = address / 2 % 32;
+    if part == 0o7723 {
+        return in_mode(0, k);
     }
-    if address < 0o772300 {
-        return in_mode(16, (address - 0o772200) / 2);
+    if part == 0o7722 {
+        return in_mode(16, k);
     }
-    if address < 0o772400 {
-        return in_mode(0, (address - 0o772300) / 2);
+    if part == 0o7776 {
+        return in_mode(32, k);
     }
-    if address < 0o777572 {
-        if address == 0o772516 {
-            return 99;
-        }
-        return 100;
-    }
-    if address < 0o777600 {
-        return 96 + ((address - 0o777572) / 2) as usize;
-    }
-    if address < 0o777700 {
-        return in_mode(32, (address - 0o777600) / 2);
-    }
-    100
+    status_at(address)
 }
 
 // rule 7: a byte lies in one of the 100 registers' words
