@@ -10,7 +10,7 @@ use borrow.Author.Tests.{leb-true, ltb-true, ltb-false, ne-eqb}
 use Rattle.rules.specs.Addresses.{registerAt, indexOf, values, addressOf}
 use Rattle.rules.proofs.Bools.{and-l, and-r, cond-same}
 use Rattle.rules.proofs.Values.{agree}
-use Rattle.decode.specs.Parts.{byPart, statusAt}
+use Rattle.decode.specs.Parts.{byPart, firstOf, statusAt}
 
 -- every element lies in lo .. hi - 1
 within : ℕ → ℕ → List ℕ → Bool
@@ -32,12 +32,12 @@ unfolding registerAt within
 none a n = outside 0o772200 0o777700 a (values addressOf 0 100) refl n
 
 inside : values byPart 0o772200 0o5500 ≡ values registerAt 0o772200 0o5500
-unfolding byPart statusAt registerAt
+unfolding byPart firstOf statusAt registerAt
 inside = refl
 
 -- outside, no part fits
 away : (a : ℕ) → (0o772200 ≤ a → a < 0o777700 → ⊥) → byPart a ≡ 100
-unfolding byPart statusAt
+unfolding byPart firstOf statusAt
 away a n =
     rw (
       ne-eqb (a / 64) 0o7723 (λ e. n (omega arith) (omega arith)),

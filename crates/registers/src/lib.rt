@@ -1,7 +1,7 @@
 // Register read and register write: the place is found once.
 
 ghost use mathlib.Core.Path.{_≡_};
-ghost use Prim.Native.Nat.{_<_};
+ghost use Prim.Native.Nat.{_≤_, _<_};
 ghost use lib.ListN.{length};
 ghost use Rattle.rules.specs.Paper.{paper};
 ghost use Rattle.rules.specs.Words.{implemented as implementedOf};
@@ -9,6 +9,7 @@ ghost use Rattle.rules.specs.Registers.{writtenAt};
 ghost use Rattle.rules.specs.Step.{step};
 ghost use Rattle.rules.specs.declared.Event.the-variants.{Read, Write};
 ghost use Rattle.registers.specs.Found.{foundOf};
+ghost use Rattle.registers.specs.Taken.{takenOf};
 use rules::Answer;
 use rules::Refusal;
 
@@ -57,21 +58,47 @@ fn implemented(place: usize) -> u16
     0o177777
 }
 
-// A write to the register at a place; a PAR and its PDR share it over the page number.
+// The bits that a PAR or a PDR takes.
+fn taken(place: usize) -> u16
+    ensures { λ r. ⌜ r ≡ takenOf place ⌝ }
+{
+    if place < 48 {
+        return 0o007777;
+    }
+    0o077417
+}
+
+// A write to a page's PAR or PDR: the word, and then A and W of the page cleared. One path for both, over the page number.
+fn write_page(s: &mut [u16], place: usize, value: u16)
+    requires { ⌜ (length (now s) ≡ 100) × (place < 96) ⌝ }
+    ensures { λ _. ⌜ now (s .exit) ≡ writtenAt (now (s .entry)) place value ⌝ }
+{
+    let pdr = 48 + place % 48;
+    s[place] = value & taken(place);
+    s[pdr] = s[pdr] & 0o177477;
+}
+
+// A write to SR0 to SR3; SR1 and SR2 stay.
+fn write_status(s: &mut [u16], place: usize, value: u16)
+    requires { ⌜ (length (now s) ≡ 100) × (96 ≤ place) ⌝ }
+    ensures { λ _. ⌜ now (s .exit) ≡ writtenAt (now (s .entry)) place value ⌝ }
+{
+    if place == 96 {
+        s[96] = (value & 0o171401) | (s[96] & 0o000376);
+    } else if place == 99 {
+        s[99] = value & 0o000017;
+    }
+}
+
+// A write to the register at a place.
 fn write_at(s: &mut [u16], place: usize, value: u16)
     requires { ⌜ (length (now s) ≡ 100) × (place < 100) ⌝ }
     ensures { λ _. ⌜ now (s .exit) ≡ writtenAt (now (s .entry)) place value ⌝ }
 {
-    if place < 48 {
-        let pdr = s[48 + place];
-        s[place] = value & 0o007777;
-        s[48 + place] = pdr & 0o177477;
-    } else if place < 96 {
-        s[place] = value & 0o077417;
-    } else if place == 96 {
-        s[96] = (value & 0o171401) | (s[96] & 0o000376);
-    } else if place == 99 {
-        s[99] = value & 0o000017;
+    if place < 96 {
+        write_page(s, place, value);
+    } else {
+        write_status(s, place, value);
     }
 }
 

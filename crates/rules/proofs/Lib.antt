@@ -2,3 +2,4 @@ pub mod Values
 pub mod Papers
 pub mod Outcomes
 pub mod Bools
+pub mod Masks

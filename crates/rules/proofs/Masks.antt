@@ -60,6 +60,10 @@ assoc-to (suc k) a b m h =
       assoc-digit (a % 2) (b % 2) (m % 2) (omega arith) (omega arith) (omega arith),
     )
 
+-- a word under one mask and then another
+pub twice : (a b m : ℕ) → m < 2 ^ 16 → bitAnd (bitAnd a b) m ≡ bitAnd a (bitAnd b m)
+twice a b m h = assoc-to 16 a b m h
+
 -- what two words have in common under a mask of the unit's width
 abbrev pub Same : ℕ → ℕ → ℕ → Type 0
 Same m x y = bitAnd x m ≡ bitAnd y m
