@@ -47,12 +47,13 @@ fn enter(s: &mut [u16], byte: u16) -> Answer
     ensures { λ a. ⌜ (paper a, now (s .exit)) ≡ entered (now (s .entry)) byte ⌝ }
 {
     let sr1 = s[97];
+    let high = byte * 256;
     if sr1 % 256 == 0 {
         s[97] = sr1 + byte;
         return Answer::Done;
     }
-    if sr1 / 256 == 0 {
-        s[97] = sr1 + byte * 256;
+    if sr1 / 256 % 256 == 0 {
+        s[97] = sr1 + high;
         return Answer::Done;
     }
     Answer::Refused(Refusal::Full)

@@ -27,7 +27,7 @@ changeByte register amount = fiveBits amount * 8 + register
 
 -- both bytes of SR1 are in use
 abbrev pub bothUsed : ℕ → Bool
-bothUsed sr1 = not (eqb (sr1 % 256) 0) && not (eqb (sr1 / 256) 0)
+bothUsed sr1 = not (eqb (sr1 % 256) 0) && not (eqb (sr1 / 256 % 256) 0)
 
 -- to SR1's low byte if that is 0, else to the high byte
 abbrev pub withChange : ℕ → ℕ → ℕ

@@ -1,5 +1,6 @@
 -- An answer in document 01's own terms: its letter, its values, and for a refusal its number.
 use Prim.Native.Nat.{ℕ}
+use mathlib.Core.Path.{_≡_}
 use mathlib.Core.Bool.{Bool}
 use Rattle.rules.specs.declared.Answer.{Answer}
 use Rattle.rules.specs.declared.Answer.the-variants.{Granted, Aborted, Word, Done, Refused}
@@ -36,3 +37,7 @@ paper (Aborted nonresident length readonly) = A nonresident length readonly
 paper (Word w) = R w
 paper Done = D
 paper (Refused r) = X (number r)
+
+-- no two answers have the same letter and values
+abbrev pub PaperOneToOne : Type 0
+PaperOneToOne = (a b : Answer) → paper a ≡ paper b → a ≡ b

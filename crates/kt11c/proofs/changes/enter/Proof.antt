@@ -13,6 +13,9 @@ returns : tie.Need-returns
 unfolding entered
 returns c = rw (eq-eqb _ _ (c .if1 .taken))
 
+add-s-2 : tie.Need-add-s-2
+add-s-2 c = omega (arith, c .before .before .slice-known .given 97)
+
 returns-2 : tie.Need-returns-2
 unfolding entered
 returns-2 c = rw (ne-eqb _ _ (c .before .if1 .left), eq-eqb _ _ (c .if2 .taken))
@@ -26,12 +29,12 @@ enter-spec =
     tie.close
     (tie.spec
     (λ c. search needs)
+    (λ c. search needs)
     add-s
     (λ c. search needs)
     (λ c. search needs)
     returns
-    (λ c. search needs)
-    (λ c. search needs)
+    add-s-2
     (λ c. search needs)
     (λ c. search needs)
     returns-2

@@ -1,0 +1,121 @@
+// What a board links: each operation over a store lent as a pointer and a count of words, answering one number.
+// The codes are in specs/Codes.antt; include/kt11c.h says them for C.
+
+ghost use mathlib.Core.Path.{_≡_};
+ghost use lib.IntN.{pos, negsuc};
+ghost use Rattle.rules.specs.Paper.{paper, number as numberOf};
+ghost use Rattle.rules.specs.Step.{step};
+ghost use Rattle.rules.specs.declared.Event.the-variants.{Refer, Read, Write, Instruction, Interrupt, Change, Init};
+ghost use Rattle.board.specs.Codes.{Small, codeOf, coded, referenceOf};
+use rules::Answer;
+use rules::Reference;
+use rules::Refusal;
+
+// A refusal's number in 01.
+fn number(r: Refusal) -> u32
+    ensures { λ n. ⌜ n ≡ numberOf r ⌝ }
+{
+    match r {
+        Refusal::Store => 1,
+        Refusal::Mode => 2,
+        Refusal::Space => 3,
+        Refusal::Access => 4,
+        Refusal::Phase => 5,
+        Refusal::High => 6,
+        Refusal::Odd => 7,
+        Refusal::NoRegister => 8,
+        Refusal::BadChange => 9,
+        Refusal::Full => 10,
+        Refusal::Kind => 11,
+        Refusal::Cut => 12,
+        Refusal::Long => 13,
+    }
+}
+
+// An answer as one number.
+fn code(a: Answer) -> u32
+    requires { ⌜ Small (paper a) ⌝ }
+    ensures { λ n. ⌜ n ≡ codeOf (paper a) ⌝ }
+{
+    match a {
+        Answer::Granted { byte, trap } => 0x10000000 + ruling::bit(trap) as u32 * 0x01000000 + byte,
+        Answer::Aborted {
+            nonresident,
+            length,
+            readonly,
+        } => {
+            0x20000000
+                + ruling::bit(nonresident) as u32 * 4
+                + ruling::bit(length) as u32 * 2
+                + ruling::bit(readonly) as u32
+        }
+        Answer::Word(w) => 0x30000000 + w as u32,
+        Answer::Done => 0x40000000,
+        Answer::Refused(r) => 0x50000000 + number(r),
+    }
+}
+
+#[no_mangle]
+pub extern "C" fn kt11c_reference(
+    store: &mut [u16],
+    mode: u32,
+    space: u32,
+    access: u32,
+    phase: u32,
+    va: u16,
+) -> u32
+    ensures { λ n. ⌜ (n, now (store .exit)) ≡ coded (step (now (store .entry)) (Refer (referenceOf mode space access phase va))) ⌝ }
+{
+    code(kt11c::reference(
+        store,
+        Reference {
+            mode,
+            space,
+            access,
+            phase,
+            va,
+        },
+    ))
+}
+
+#[no_mangle]
+pub extern "C" fn kt11c_read(store: &[u16], address: u32) -> u32
+    ensures { λ n. ⌜ (n, now (store .entry)) ≡ coded (step (now (store .entry)) (Read address)) ⌝ }
+{
+    code(kt11c::read_register(store, address))
+}
+
+#[no_mangle]
+pub extern "C" fn kt11c_write(store: &mut [u16], address: u32, value: u16) -> u32
+    ensures { λ n. ⌜ (n, now (store .exit)) ≡ coded (step (now (store .entry)) (Write address value)) ⌝ }
+{
+    code(kt11c::write_register(store, address, value))
+}
+
+#[no_mangle]
+pub extern "C" fn kt11c_instruction(store: &mut [u16], va: u16) -> u32
+    ensures { λ n. ⌜ (n, now (store .exit)) ≡ coded (step (now (store .entry)) (Instruction va)) ⌝ }
+{
+    code(kt11c::instruction_start(store, va))
+}
+
+#[no_mangle]
+pub extern "C" fn kt11c_interrupt(store: &mut [u16], vector: u16) -> u32
+    ensures { λ n. ⌜ (n, now (store .exit)) ≡ coded (step (now (store .entry)) (Interrupt vector)) ⌝ }
+{
+    code(kt11c::interrupt_start(store, vector))
+}
+
+#[no_mangle]
+pub extern "C" fn kt11c_change(store: &mut [u16], register: u32, amount: i32) -> u32
+    ensures { λ n. ⌜ (n, now (store .exit)) ≡ coded (step (now (store .entry)) (Change register amount)) ⌝ }
+{
+    code(kt11c::note_change(store, register, amount))
+}
+
+#[no_mangle]
+pub extern "C" fn kt11c_init(store: &mut [u16]) -> u32
+    ensures { λ n. ⌜ (n, now (store .exit)) ≡ coded (step (now (store .entry)) Init) ⌝ }
+{
+    code(kt11c::init(store))
+}

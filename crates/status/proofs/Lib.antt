@@ -1,0 +1,2 @@
+pub mod AsInTheStore
+pub mod InPlace

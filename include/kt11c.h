@@ -1,0 +1,81 @@
+/* kt11c.h: the KT11-C memory management unit as a static library (libboard.a).
+ *
+ * The unit keeps no state of its own. The caller lends its registers, 100 words of 16 bits:
+ *     0 to 47   page address registers (PAR): Kernel I 0 to 7, Kernel D, Supervisor I, D, User I, D
+ *    48 to 95   page descriptor registers (PDR) in the same order
+ *    96 to 99   SR0, SR1, SR2, SR3
+ *
+ * What the caller owes, since it can't be seen from inside: `store` points to `words` words that are there and
+ * that nothing else reads or writes during the call. Everything else is judged: any numbers, and a count
+ * other than 100, get an answer.
+ *
+ * Every call answers one number. Its top four bits say what it is:
+ *     1  granted   bits 17:0 are the byte; bit 24 is set if the reference traps
+ *     2  aborted   bit 2 non-resident, bit 1 length, bit 0 read-only
+ *     3  a word    bits 15:0
+ *     4  done
+ *     5  refused   bits 3:0 are the number, and not a bit of the store has changed:
+ *                  1 the store isn't 100 words      6 register address above 777777 (octal)
+ *                  2 mode above 3                   7 register address odd
+ *                  3 space above 1                  8 even, but no register's address
+ *                  4 access above 1                 9 noted register above 7, or amount 0 or out of range
+ *                  5 phase above 1                 10 both bytes of SR1 are in use
+ */
+#ifndef KT11C_H
+#define KT11C_H
+
+#include <stddef.h>
+#include <stdint.h>
+
+#ifdef __cplusplus
+extern "C" {
+#endif
+
+#define KT11C_WORDS 100u
+
+/* The kind of an answer, and its values. */
+#define KT11C_KIND(answer) ((answer) >> 28)
+#define KT11C_GRANTED 1u
+#define KT11C_ABORTED 2u
+#define KT11C_WORD 3u
+#define KT11C_DONE 4u
+#define KT11C_REFUSED 5u
+
+#define KT11C_BYTE(answer) ((answer) & 0x3ffffu)
+#define KT11C_TRAP(answer) (((answer) >> 24) & 1u)
+#define KT11C_NONRESIDENT(answer) (((answer) >> 2) & 1u)
+#define KT11C_LENGTH(answer) (((answer) >> 1) & 1u)
+#define KT11C_READONLY(answer) ((answer) & 1u)
+#define KT11C_VALUE(answer) ((uint16_t)((answer) & 0xffffu))
+#define KT11C_NUMBER(answer) ((answer) & 0xfu)
+
+/* A reference: mode 0 Kernel, 1 Supervisor, 2 illegal, 3 User; space 0 instruction stream, 1 data;
+ * access 0 read, 1 write; phase 0 instruction, 1 interrupt or trap sequence.
+ * Granted, aborted, or refused by 1 to 5. It moves no data. */
+uint32_t kt11c_reference(uint16_t *store, size_t words, uint32_t mode, uint32_t space, uint32_t access,
+                         uint32_t phase, uint16_t va);
+
+/* A register read: a word, or refused by 1, 6, 7 or 8. The store stays as it is. */
+uint32_t kt11c_read(const uint16_t *store, size_t words, uint32_t address);
+
+/* A register write: done, or refused by 1, 6, 7 or 8. A PAR or PDR write clears A and W of its page. */
+uint32_t kt11c_write(uint16_t *store, size_t words, uint32_t address, uint16_t value);
+
+/* An instruction starts at va: unless SR0 is frozen, SR1 becomes 0 and SR2 becomes va. Done, or refused by 1. */
+uint32_t kt11c_instruction(uint16_t *store, size_t words, uint16_t va);
+
+/* An interrupt or trap starts by vector: unless SR0 is frozen, SR1 becomes 0 and SR2 the vector. Done, or refused by 1. */
+uint32_t kt11c_interrupt(uint16_t *store, size_t words, uint16_t vector);
+
+/* General register 0 to 7 changed by an amount from -16 to 15 but not 0: noted in SR1 unless SR0 is frozen.
+ * Done, or refused by 1, 9 or 10. */
+uint32_t kt11c_change(uint16_t *store, size_t words, uint32_t general_register, int32_t amount);
+
+/* INIT: SR0 to SR3 become 0; PAR and PDR stay. Done, or refused by 1. */
+uint32_t kt11c_init(uint16_t *store, size_t words);
+
+#ifdef __cplusplus
+}
+#endif
+
+#endif
