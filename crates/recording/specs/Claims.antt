@@ -1,0 +1,58 @@
+-- What steps of a replay make together. The proofs are in proofs/.
+use Prim.Native.Nat.{ℕ, _+_, _<_, _≤_}
+use mathlib.Core.Path.{_≡_}
+use mathlib.Core.Bool.{true, false, cond}
+use mathlib.Core.List.{List, [], _∷_, _++_}
+use lib.ListN.{length}
+use Rattle.records.specs.Records.{recordAt}
+use Rattle.lines.specs.Lines.{Text}
+use Rattle.recording.specs.Turns.{placeAt, turns, turnsOf}
+use Rattle.recording.specs.Transcript.{turnsFrom, left, transcript}
+use Rattle.recording.specs.Steps.{Stretch, stepOf, stepsOf}
+use Rattle.recording.specs.declared.Place.{Place}
+
+-- the bound on the number of turns cuts nothing off: the turns from a place are its record's, and those from the next place
+abbrev pub EveryRecord : Type 0
+EveryRecord = (r : List ℕ) (at : ℕ) (l : List ℕ) → turns (length r) r at l ≡ turnsOf (turns (length r) r) at l (recordAt r at)
+
+-- whatever the room, what a step writes and what is then left make what was left before
+abbrev pub Together : Type 0
+Together =
+    (r : List ℕ) (p : Place) (l : List ℕ) (room : ℕ)
+    → let q = stepOf r p l room in
+    let rest = left r (q .place) (q .store) in
+    (q .text ++ rest .0, rest .1) ≡ left r p l
+
+-- it wrote all of the text, it is over, and the store is the last one
+pub record Finished (q : Stretch) (whole : Text × List ℕ) : Type 0 where
+  pub text : q .text ≡ whole .0
+  pub store : q .store ≡ whole .1
+  pub over : q .place .over ≡ true
+
+-- where the whole text fits, one step writes it
+abbrev pub AtOnce : Type 0
+AtOnce =
+    (r : List ℕ) (p : Place) (l : List ℕ) (room : ℕ)
+    → length (left r p l .0) ≤ room → Finished (stepOf r p l room) (left r p l)
+
+-- at most so many steps are still needed: one for each turn left, and one to find that none is
+abbrev pub stepsLeft : List ℕ → Place → List ℕ → ℕ
+stepsLeft r p l = cond (p .over) 0 (1 + length (turnsFrom r p l))
+
+-- a step with room for a line, the longest of which has 11 characters, leaves fewer
+abbrev pub Progress : Type 0
+Progress =
+    (r : List ℕ) (p : Place) (l : List ℕ) (room : ℕ)
+    → p .over ≡ false → 11 ≤ room
+    → let q = stepOf r p l room in stepsLeft r (q .place) (q .store) < stepsLeft r p l
+
+-- each with room for a line
+abbrev pub Roomy : List ℕ → Type 0
+Roomy [] = Unit
+Roomy (room ∷ rooms) = (11 ≤ room) × Roomy rooms
+
+-- enough steps, each with room for a line, write exactly the transcript
+abbrev pub InSteps : Type 0
+InSteps =
+    (r : List ℕ) (l : List ℕ) (rooms : List ℕ)
+    → Roomy rooms → length r + 1 < length rooms → Finished (stepsOf r (placeAt 0 false) l rooms) (transcript r l)

@@ -1,0 +1,148 @@
+// A whole recording replayed from a lent store into a lent output (01, "Recordings"), in steps where the output is short.
+
+use lines::LONGEST;
+use records::Cursor;
+use records::Found;
+use rules::Answer;
+use rules::Event;
+use rules::Refusal;
+ghost use mathlib.Core.Path.{_≡_};
+ghost use Prim.Native.Nat.{_≤_};
+ghost use lib.ListN.{length};
+ghost use lib.Dec.{leb};
+ghost use Rattle.rules.specs.Paper.{X, number};
+ghost use Rattle.rules.specs.Step.{step};
+ghost use Rattle.lines.specs.Lines.{lineOf};
+ghost use Rattle.recording.specs.Steps.{taken, ended, ahead, shown, replayed};
+
+// How far a replay came: the place of the next record, and whether it is over.
+pub struct Place {
+    pub at: usize,
+    pub over: bool,
+}
+
+// What one step did: how far the replay is then, and how many bytes of the output were written.
+pub struct Stepped {
+    pub place: Place,
+    pub written: usize,
+}
+
+const WORDS: usize = 100;
+
+const LIMIT: usize = 32768;
+
+fn copy_of(s: &[u16]) -> [u16; 100]
+    requires { ⌜ length (now s) ≡ 100 ⌝ }
+    ensures { λ r. ⌜ r ≡ now (s .entry) ⌝ }
+{
+    let mut copy = [0u16; 100];
+    let mut i = 0;
+    while i < 100 {
+        copy[i] = s[i];
+        i += 1;
+    }
+    copy
+}
+
+// whether the line of an event's answer fits, tried on a copy of the store
+fn fits_tried(s: &[u16], e: Event, room: usize) -> bool
+    requires { ⌜ length (now s) ≡ 100 ⌝ }
+    ensures { λ r. ⌜ r ≡ leb (length (lineOf (step (now (s .entry)) e .0))) room ⌝ }
+{
+    let mut copy = copy_of(s);
+    let answer = kt11c::apply(&mut copy, e);
+    lines::length_of(answer) <= room
+}
+
+// whether the line of an event's answer fits: any line does, or this one
+fn fits(s: &[u16], e: Event, room: usize) -> bool
+    requires { ⌜ length (now s) ≡ 100 ⌝ }
+    ensures { λ r. ⌜ r ≡ leb (length (lineOf (step (now (s .entry)) e .0))) room ⌝ }
+{
+    if LONGEST <= room {
+        return true;
+    }
+    fits_tried(s, e, room)
+}
+
+// an event and its line, where the line fits: how many bytes were written, 0 where it does not fit and nothing happens
+fn take_event(s: &mut [u16], e: Event, out: &mut [u8], written: usize) -> usize
+    requires { ⌜ (length (now s) ≡ 100) × (written ≤ length (now out)) ⌝ }
+    ensures { λ n. ⌜ (n, now (s .exit), now (out .exit)) ≡ taken (now (s .entry)) e (now (out .entry)) written ⌝ }
+{
+    if fits(s, e, out.len() - written) {
+        let answer = kt11c::apply(s, e);
+        lines::put(out, written, answer)
+    } else {
+        0
+    }
+}
+
+// a refusal that stops the replay: its line, where it fits
+fn stop(out: &mut [u8], at: usize, written: usize, refusal: Refusal) -> Stepped
+    requires { ⌜ written ≤ length (now out) ⌝ }
+    ensures { λ r. ⌜ (r, now (out .exit)) ≡ ended (now (out .entry)) at written (lineOf (X (number refusal))) ⌝ }
+{
+    let n = lines::put(out, written, Answer::Refused(refusal));
+    Stepped {
+        place: Place { at, over: n != 0 },
+        written: written + n,
+    }
+}
+
+// record by record, while the next line fits
+fn replay_records(s: &mut [u16], recording: &[u8], start: usize, out: &mut [u8]) -> Stepped
+    requires { ⌜ length (now s) ≡ 100 ⌝ }
+    ensures { λ r. ⌜ (r, now (s .exit), now (out .exit)) ≡ shown (ahead (now (recording .entry)) start (now (s .entry)) (length (now (out .entry)))) (now (out .entry)) ⌝ }
+{
+    let mut at = start;
+    let mut written = 0;
+    loop {
+        let cursor = Cursor { at };
+        let found = cursor.read(recording);
+        match found {
+            Found::End => {
+                return Stepped {
+                    place: Place { at, over: true },
+                    written,
+                };
+            }
+            Found::Refused(refusal) => {
+                return stop(out, at, written, refusal);
+            }
+            Found::Whole(event, next) => {
+                let n = take_event(s, event, out, written);
+                if n == 0 {
+                    return Stepped {
+                        place: Place { at, over: false },
+                        written,
+                    };
+                }
+                written += n;
+                at = next.at;
+            }
+        }
+    }
+}
+
+// One step of a replay: from how far it came, as many whole lines as the output holds.
+// 1 and then 13 are tested first, and give their one line.
+pub fn replay(s: &mut [u16], recording: &[u8], from: Place, out: &mut [u8]) -> Stepped
+    ensures { λ r. ⌜ (r, now (s .exit), now (out .exit)) ≡ replayed (now (s .entry)) (now (recording .entry)) from (now (out .entry)) ⌝ }
+{
+    let at = from.at;
+    let over = from.over;
+    if over {
+        return Stepped {
+            place: from,
+            written: 0,
+        };
+    }
+    if s.len() != WORDS {
+        return stop(out, at, 0, Refusal::Store);
+    }
+    if LIMIT < recording.len() {
+        return stop(out, at, 0, Refusal::Long);
+    }
+    replay_records(s, recording, at, out)
+}

@@ -1,0 +1,25 @@
+use borrow.Author.Needs.{needs}
+use Rattle.records.proofs.reference_at.Statement.{statement}
+use Rattle.records.proofs.reference_at.Tie as tie
+
+returns : tie.Need-returns
+returns c = cc (c .before .before .before .before .before .before .before .wide32 .ensures .0, c .before .before .before .before .before .wide322 .ensures .0, c .before .before .before .wide323 .ensures .0, c .before .wide324 .ensures .0, c .two-at .ensures)
+
+pub reference-at-spec : {M : Type 1} → statement M
+reference-at-spec =
+    tie.close
+    (tie.spec
+    (λ c. search needs)
+    (λ c κs. search needs)
+    (λ c. search needs)
+    (λ c. search needs)
+    (λ c κs. search needs)
+    (λ c. search needs)
+    (λ c. search needs)
+    (λ c κs. search needs)
+    (λ c. search needs)
+    (λ c. search needs)
+    (λ c κs. search needs)
+    (λ c. search needs)
+    (λ c κs. search needs)
+    returns)

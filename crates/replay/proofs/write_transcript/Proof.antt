@@ -1,0 +1,69 @@
+-- The text written lies within its buffer, and each step leaves fewer: so the loop goes on to the end of the transcript.
+use mathlib.Core.Path.{_≡_, refl, sym, _∙_}
+use Prim.Native.Nat.{_≤_}
+use native.Mathlib.Omega.{arith}
+use lib.ListN.{length}
+use lib.Seq.{length-take-le}
+use borrow.Author.Needs.{needs}
+use borrow.Author.Tests.{not-true}
+use Rattle.recording.specs.Turns.{placeAt}
+use Rattle.recording.specs.Claims.{stepsLeft}
+use Rattle.recording.proofs.Promise.{within, fewer}
+use Rattle.replay.proofs.write_transcript.Statement.{statement}
+use Rattle.replay.proofs.write_transcript.Tie as tie
+
+abbrev Inv-loop : tie.InvT-loop
+Inv-loop registers₀ recording text₀ at₀ over₀ registers text at over =
+    (length registers ≡ length registers₀) × (length text ≡ length text₀)
+
+abbrev μ-loop : tie.MeasureT-loop
+μ-loop registers₀ recording text₀ at₀ over₀ registers text at over = stepsLeft recording (placeAt at over) registers
+
+slice-reshare-prefix-write-all : tie.Need-slice-reshare-prefix-write-all Inv-loop μ-loop
+slice-reshare-prefix-write-all c =
+    let step = c .before .before .before .before .replay in
+    omega (arith, within _ _ _ _ _ (step .ensures) (step .kept .1 .1 .1 .0), step .kept .1 .1 .1 .0)
+
+slice-aggregate-write-all : tie.Need-slice-aggregate-write-all Inv-loop μ-loop
+slice-aggregate-write-all c =
+    let step = c .before .before .before .before .before .replay in
+    sym (length-take-le _ _ (omega (arith, within _ _ _ _ _ (step .ensures) (step .kept .1 .1 .1 .0), step .kept .1 .1 .1 .0)))
+
+same-length : tie.Need-same-length Inv-loop μ-loop
+same-length c = c .before .before .before .before .before .before .before .replay .kept .0 ∙ c .before .before .before .before .before .before .before .before .before .before .before .loop .inv .0
+
+same-length-2 : tie.Need-same-length-2 Inv-loop μ-loop
+same-length-2 c = c .before .before .before .before .before .before .before .replay .kept .1 .1 .1 .0 ∙ c .before .before .before .before .before .before .before .before .before .before .before .loop .inv .1
+
+loop-less : tie.Need-loop-less Inv-loop μ-loop
+loop-less c =
+    fewer _ _ _ _ _ (c .before .before .before .before .before .before .before .replay .ensures) (not-true _ (c .before .before .before .before .before .before .before .before .before .before .loop-test .taken)) (omega (arith, c .before .before .before .before .before .before .before .before .before .before .before .loop .inv .1, c .before .before .before .before .before .before .before .before .before .before .before .before .before .before .before .pre))
+
+loop-again : tie.Need-loop-again Inv-loop μ-loop
+loop-again c = (c .before .before .before .before .before .before .before .replay .kept .0 ∙ c .before .before .before .before .before .before .before .before .before .before .before .loop .inv .0, c .before .before .before .before .before .before .before .replay .kept .1 .1 .1 .0 ∙ c .before .before .before .before .before .before .before .before .before .before .before .loop .inv .1)
+
+same-length-3 : tie.Need-same-length-3 Inv-loop μ-loop
+same-length-3 c = c .before .loop .inv .0
+
+same-length-4 : tie.Need-same-length-4 Inv-loop μ-loop
+same-length-4 c = c .before .loop .inv .1
+
+pub write-transcript-spec : {M : Type 1} → statement M
+write-transcript-spec =
+    tie.close
+    (tie.spec
+    Inv-loop
+    μ-loop
+    (λ c. (refl, refl))
+    (λ c κs. search needs)
+    slice-reshare-prefix-write-all
+    slice-aggregate-write-all
+    (λ c κs. search needs)
+    same-length
+    same-length-2
+    (λ c. search needs)
+    loop-less
+    loop-again
+    same-length-3
+    same-length-4
+    (λ c. search needs))
