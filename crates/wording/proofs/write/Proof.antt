@@ -9,13 +9,13 @@ use Rattle.wording.proofs.write.Tie as tie
 
 returns : tie.Need-returns
 unfolding placedOf
-returns c = rw (lt-ltb _ _ (c .if1 .taken))
+returns c = (rw (lt-ltb _ _ (c .if1 .taken)), search needs)
 
 returns-2 : tie.Need-returns-2
 unfolding placedOf
 returns-2 c =
     let w = c .before .before .put-audited .ensures in
-    rw (le-ltb _ _ (c .before .before .before .before .if1 .left)) (at-start _ _ _ _ (w .0) (omega (arith, w .1)))
+    (rw (le-ltb _ _ (c .before .before .before .before .if1 .left)) (at-start _ _ _ _ (w .0) (omega (arith, w .1))), search needs)
 
 pub write-spec : {M : Type 1} → statement M
 write-spec =
