@@ -22,6 +22,7 @@ pub fn apply(store: &mut [u16], event: Event) -> Answer {
 }
 
 /// A reference: granted, aborted or refused.
+#[inline(always)]
 pub fn reference(
     store: &mut [u16],
     mode: u32,
@@ -30,10 +31,14 @@ pub fn reference(
     phase: u32,
     va: u16,
 ) -> Answer {
-    lend(store, |store| refer(store, mode, space, access, phase, va))
+    match <&mut Store>::try_from(store) {
+        Ok(store) => refer(store, mode, space, access, phase, va),
+        Err(_) => Answer::Refused(refusals::STORE_LENGTH),
+    }
 }
 
 /// Register read: the implemented bits of the register at an address.
+#[inline(always)]
 pub fn read_register(store: &[u16], address: u32) -> Answer {
     match <&Store>::try_from(store) {
         Ok(store) => register_words::read(store, address),
@@ -42,6 +47,7 @@ pub fn read_register(store: &[u16], address: u32) -> Answer {
 }
 
 /// Register write.
+#[inline(always)]
 pub fn write_register(store: &mut [u16], address: u32, value: u16) -> Answer {
     lend(store, |store| register_words::write(store, address, value))
 }

@@ -11,6 +11,7 @@ use crate::registers::{
 use crate::status::record;
 
 /// Refusals 2 to 5, then rules 1 to 3, then the page.
+#[inline(always)]
 pub fn refer(store: &mut Store, mode: u32, space: u32, access: u32, phase: u32, va: u16) -> Answer {
     if let Some(number) = refusal(mode, space, access, phase) {
         return Answer::Refused(number);
@@ -68,6 +69,7 @@ fn cause(phase: u32, mode: u32, d_set: bool, va: u16) -> u16 {
 }
 
 /// Rules 4 to 9, once the page is known.
+#[inline(always)]
 fn relocated(store: &mut Store, page: usize, write: bool, va: u16, cause: u16) -> Answer {
     let pdr = store[PDR + page];
     let key = KEYS[usize::from(pdr & PDR_KEY)];

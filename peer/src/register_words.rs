@@ -8,6 +8,7 @@ use crate::registers::{
 };
 
 /// Register read: the implemented bits.
+#[inline(always)]
 pub fn read(store: &Store, address: u32) -> Answer {
     match addressed(address) {
         Ok(place) => Answer::Word(store[place] & implemented_bits(place)),
@@ -16,6 +17,7 @@ pub fn read(store: &Store, address: u32) -> Answer {
 }
 
 /// Register write: each kind of register takes its own bits.
+#[inline(always)]
 pub fn write(store: &mut Store, address: u32, value: u16) -> Answer {
     match addressed(address) {
         Ok(place) => {

@@ -2,7 +2,7 @@
 use mathlib.Core.Path.{_≡_, refl, sym, _∙_}
 use mathlib.Core.Bool.{Bool, true, false, cond, not, _&&_, _||_, true≢false}
 use mathlib.Core.List.{List, [], _∷_}
-use Prim.Native.Nat.{ℕ, _%_, _<_, _≤_}
+use Prim.Native.Nat.{ℕ, _/_, _%_}
 use native.Mathlib.Omega.{arith}
 use native.Mathlib.Nat.{mod-mod}
 use lib.Dec.{eqb, ltb}
@@ -19,7 +19,7 @@ use Rattle.rules.specs.Refusals.{refusalOf, odd}
 use Rattle.rules.specs.Step.{step, accepted}
 use Rattle.rules.specs.declared.Event.the-variants.{Write}
 use Rattle.rules.specs.declared.Refusal.the-variants.{Store}
-use Rattle.decode.specs.Ranges.{byRange}
+use Rattle.decode.specs.Parts.{byPart, firstOf, statusAt}
 use Rattle.decode.proofs.Same.{same}
 use Rattle.widening.specs.Widens.{widensPar, keepsBlocks, keepsRights}
 use Rattle.widening.specs.Premises.{premises}
@@ -31,18 +31,18 @@ use Rattle.auditing.specs.Places.{leftOn, placeVerdict}
 
 -- no register at an odd address, or above 777777
 odd-none : (a : ℕ) → odd a ≡ true → isRegister a ≡ false
-unfolding byRange
+unfolding byPart
 odd-none a h = rw (← same a, h)
 
 high-none : (a : ℕ) → ltb 0o777777 a ≡ true → isRegister a ≡ false
-unfolding byRange
+unfolding byPart firstOf statusAt
 high-none a h = at (odd a) refl
   where
     at : (x : Bool) → odd a ≡ x → isRegister a ≡ false
     at true e = odd-none a e
     at false e =
         let k = ltb-true 0o777777 a h in
-        rw (← same a, e, le-ltb a 0o772200 (omega arith), le-ltb a 0o772300 (omega arith), le-ltb a 0o772400 (omega arith), le-ltb a 0o777572 (omega arith), le-ltb a 0o777600 (omega arith), le-ltb a 0o777700 (omega arith))
+        rw (← same a, e, ne-eqb (a / 64) 0o7723 (λ q. omega arith), ne-eqb (a / 64) 0o7722 (λ q. omega arith), ne-eqb (a / 64) 0o7776 (λ q. omega arith), ne-eqb a 0o777572 (λ q. omega arith), ne-eqb a 0o777574 (λ q. omega arith), ne-eqb a 0o777576 (λ q. omega arith), ne-eqb a 0o772516 (λ q. omega arith))
 
 -- h, o, g: a high address, an odd one, a register's
 by-tests : (h o g : Bool) → (h ≡ true → g ≡ false) → (o ≡ true → g ≡ false)

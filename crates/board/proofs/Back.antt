@@ -6,11 +6,8 @@ use native.Mathlib.Omega.{arith}
 use lib.Dec.{eqb}
 use Rattle.rules.specs.Paper.{Paper, G, A, R, D, X}
 use Rattle.rules.specs.Words.{bit}
+use Rattle.rules.proofs.Bools.{bit-small}
 use Rattle.board.specs.Codes.{codeOf, Small, flag, answerOf, ReadBack, OneToOne}
-
-pub bit-small : (b : Bool) → bit b ≤ 1
-bit-small true = omega arith
-bit-small false = omega arith
 
 same-bit : (b : Bool) → eqb (bit b) 1 ≡ b
 same-bit true = refl

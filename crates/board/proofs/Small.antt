@@ -1,6 +1,6 @@
 -- Every answer of the unit is small: a byte of rule 5 or rule 1, a masked word, a number of the table.
 use mathlib.Core.Path.{_≡_, refl, sym, subst}
-use mathlib.Core.Bool.{Bool, true, false, cond, _&&_, false≢true}
+use mathlib.Core.Bool.{Bool, true, false, cond, _&&_}
 use mathlib.Core.List.{List, [], _∷_}
 use Prim.Native.Nat.{ℕ, _+_, _*_, _<_, _≤_}
 use native.Mathlib.Omega.{arith}
@@ -18,6 +18,7 @@ use Rattle.rules.specs.Step.{step, accepted}
 use Rattle.rules.specs.declared.Reference.{Reference}
 use Rattle.rules.specs.declared.Event.{Event}
 use Rattle.rules.specs.declared.Event.the-variants.{Refer, Read, Write, Instruction, Interrupt, Change, Init}
+use Rattle.rules.proofs.Bools.{and-l, and-r}
 use Rattle.board.specs.Codes.{Small, Typed, AnswersSmall}
 
 -- whichever way a test goes
@@ -33,14 +34,6 @@ at-most false m n k h g = g
 numbered : Conditions → Bool
 numbered [] = true
 numbered (c ∷ cs) = ltb (c .0) 14 && numbered cs
-
-and-l : (a b : Bool) → (a && b) ≡ true → a ≡ true
-and-l true b h = refl
-and-l false b h = h
-
-and-r : (a b : Bool) → (a && b) ≡ true → b ≡ true
-and-r true b h = h
-and-r false b h = absurd (false≢true h)
 
 below : (x : Bool) (m n : ℕ) → m < 14 → n < 14 → cond x m n < 14
 below true m n h g = h

@@ -17,7 +17,7 @@ use Rattle.rules.specs.References.{sr0After}
 use Rattle.rules.specs.Registers.{readAt}
 use Rattle.rules.specs.Others.{bothUsed, withChange}
 use Rattle.claims.specs.Unimplemented.{Alike}
-use Rattle.claims.proofs.Masks.{Same, same-or, same-and, same-field, same-low}
+use Rattle.rules.proofs.Masks.{Same, same-or, same-and, same-field, same-low}
 
 -- a word stored at one place in both
 at-place : (l m : List ℕ) (p v w : ℕ) → Alike l m → Same (implemented p) v w → (x : Bool) → ltb p (length l) ≡ x → readAt (set l p v) p ≡ readAt (set m p w) p

@@ -14,7 +14,7 @@ use Rattle.rules.specs.declared.Reference.{Reference}
 use Rattle.rules.specs.declared.Event.{Event}
 use Rattle.rules.specs.declared.Event.the-variants.{Refer, Read, Write, Instruction, Interrupt, Change, Init}
 use Rattle.claims.specs.Demand1.{Lowest, RefusedExactly, RefusedKeeps, Demand1}
-use Rattle.claims.proofs.Bools.{cond-first, cond-same}
+use Rattle.rules.proofs.Bools.{cond-first, cond-same}
 use Rattle.claims.proofs.Lowest.{rising, absent, first-lowest, lowest-first}
 
 -- the letter of an answer that is no refusal

@@ -19,7 +19,7 @@ use Rattle.rules.specs.Step.{step, accepted}
 use Rattle.rules.specs.declared.Reference.{Reference}
 use Rattle.rules.specs.declared.Event.the-variants.{Refer}
 use Rattle.claims.specs.Demand2.{Relocated, parFor, pdrFor, writing, Allowed, GrantedExactly, Barred, AbortedExactly, Demand2}
-use Rattle.claims.proofs.Bools.{cond-first}
+use Rattle.rules.proofs.Bools.{cond-first}
 
 -- the answer by mode 2, the three flags, the byte and the trap
 abbrev answer : Bool → Bool → Bool → Bool → ℕ → Bool → Paper

@@ -22,7 +22,7 @@ use Rattle.rules.specs.declared.Event.the-variants.{Refer, Read, Write, Instruc
 use Rattle.claims.specs.Demand2.{pageFor}
 use Rattle.claims.specs.Frame.{written, named, OthersStay, LengthStays, OnlyMarks, Frame}
 use Rattle.claims.proofs.Marks.{marks}
-use Rattle.claims.proofs.Bools.{or-l, or-r, cond-first, cond-last, cond-getD, cond-length, cond-same}
+use Rattle.rules.proofs.Bools.{or-l, or-r, cond-first, cond-last, cond-getD, cond-length, cond-same}
 
 -- lengths
 accepted-long : (l : List ℕ) (e : Event) → length (accepted l e .1) ≡ length l

@@ -1,10 +1,8 @@
-pub mod Bools
 pub mod Readings
 pub mod Lowest
 pub mod Demand1
 pub mod Demand2
 pub mod Determined
-pub mod Masks
 pub mod Alike
 pub mod Marks
 pub mod Unimplemented

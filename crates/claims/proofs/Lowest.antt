@@ -8,7 +8,7 @@ use lib.Dec.{ltb, eqb}
 use borrow.Author.Tests.{ltb-true, ltb-false, eqb-true, eqb-false, eq-eqb, ne-eqb}
 use Rattle.rules.specs.Refusals.{Conditions, holds, lowest}
 use Rattle.claims.specs.Demand1.{Lowest}
-use Rattle.claims.proofs.Bools.{and-l, and-r}
+use Rattle.rules.proofs.Bools.{and-l, and-r}
 
 -- the numbers rise, from above b
 abbrev pub rising : ℕ → Conditions → Bool

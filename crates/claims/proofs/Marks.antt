@@ -21,7 +21,7 @@ use Rattle.rules.specs.declared.Reference.{Reference}
 use Rattle.rules.specs.declared.Event.the-variants.{Refer}
 use Rattle.claims.specs.Demand2.{pageFor, parFor, pdrFor, writing}
 use Rattle.claims.specs.Frame.{OnlyMarks}
-use Rattle.claims.proofs.Bools.{cond-last, cond-getD, cond-same}
+use Rattle.rules.proofs.Bools.{cond-last, cond-getD, cond-same, place-small}
 
 -- a word with A and W added or not
 abbrev Marked : ℕ → ℕ → Type 0
@@ -38,19 +38,9 @@ either : (x : Bool) (p q old : ℕ) → Marked p old → Marked q old → Marked
 either true p q old s t = s
 either false p q old s t = t
 
-first-small : (x y : Bool) → cond x 0 (cond y 16 32) ≤ 32
-first-small true y = omega arith
-first-small false true = omega arith
-first-small false false = omega arith
-
-bit-small : (b : Bool) → bit b ≤ 1
-bit-small true = omega arith
-bit-small false = omega arith
-
 -- the page's PDR lies before SR0
 pub before-status : (l : List ℕ) (r : Reference) → PDR (pageFor l r) < 96
-before-status l r =
-    omega (arith, first-small (eqb (r .mode) 0) (eqb (r .mode) 1), bit-small (usesD (word l SR3) (r .mode) (r .space)))
+before-status l r = omega (arith, place-small (r .mode) (usesD (word l SR3) (r .mode) (r .space)) (r .va))
 
 module _ (l : List ℕ) (r : Reference) (whole : length l ≡ 100) where
   q : ℕ

@@ -25,9 +25,9 @@ use Rattle.rules.specs.declared.Event.{Event}
 use Rattle.rules.specs.declared.Event.the-variants.{Refer, Read, Write, Instruction, Interrupt, Change, Init}
 use Rattle.claims.specs.Demand2.{pageFor, writing}
 use Rattle.claims.specs.Unimplemented.{Alike, Unimplemented}
-use Rattle.claims.proofs.Bools.{cond-first, cond-last}
+use Rattle.rules.proofs.Bools.{cond-first, cond-last}
 use Rattle.claims.proofs.Marks.{before-status}
-use Rattle.claims.proofs.Masks.{Same, same-or, same-and, same-low}
+use Rattle.rules.proofs.Masks.{Same, same-or, same-and, same-low}
 use Rattle.claims.proofs.Alike.{set-alike, cond-alike, pdr-same, base-same, key-same, length-same, sr0-same, on-same, enabled-same, frozen-same, enables-same, used-same}
 
 -- SR0 afterwards, by the two tests

@@ -4,16 +4,10 @@
 ghost use mathlib.Core.Path.{_≡_};
 ghost use Rattle.rules.specs.Paper.{paper};
 ghost use Rattle.rules.specs.Step.{step};
-
-mod changes;
-mod events;
-mod references;
-mod registers;
-
-pub use changes::note_change;
 pub use events::init;
 pub use events::instruction_start;
 pub use events::interrupt_start;
+pub use events::note_change;
 pub use references::reference;
 pub use registers::read_register;
 pub use registers::write_register;

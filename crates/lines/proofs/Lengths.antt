@@ -1,5 +1,5 @@
 -- No line is empty, and none has more than eleven characters: each kind's length computes.
-use Prim.Native.Nat.{ℕ, _<_, _≤_}
+use Prim.Native.Nat.{_<_, _≤_}
 use lib.ListN.{length}
 use lib.Dec.{lit≤, lit<}
 use Rattle.rules.specs.Paper.{Paper, G, A, R, D, X}

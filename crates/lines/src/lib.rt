@@ -4,13 +4,12 @@ use rules::Answer;
 use rules::Refusal;
 ghost use mathlib.Core.Path.{_≡_};
 ghost use mathlib.Core.Bool.{cond};
-ghost use mathlib.Core.List.{_∷_, []};
 ghost use Prim.Native.Nat.{_+_, _%_, _≤_, _<_};
 ghost use lib.ListN.{length};
 ghost use lib.Seq.{sets};
 ghost use Rattle.rules.specs.Paper.{paper, number, G, A as Abort, R, D, X};
 ghost use Rattle.rules.specs.Words.{bit};
-ghost use Rattle.lines.specs.Digits.{digit, octal, decimal};
+ghost use Rattle.lines.specs.Digits.{digit, octal};
 ghost use Rattle.lines.specs.Lines.{lineOf, placed};
 
 const SPACE: u8 = 32;

@@ -1,13 +1,13 @@
 -- What is ahead of a step at a place, by what stands there; and how one turn of the loop goes on or ends.
-use mathlib.Core.Path.{_≡_, refl, ap, sym, _∙_}
-use mathlib.Core.Bool.{Bool, true, false, cond, not}
-use mathlib.Core.List.{List, [], _∷_, _++_}
-use Prim.Native.Nat.{ℕ, _+_, _-_, _<_, _≤_}
+use mathlib.Core.Path.{_≡_, refl, ap, _∙_}
+use mathlib.Core.Bool.{Bool, true, false, cond}
+use mathlib.Core.List.{List, []}
+use Prim.Native.Nat.{ℕ, _+_, _-_, _≤_}
 use native.Mathlib.Nat.{add-zero}
 use native.Mathlib.Omega.{arith}
 use lib.ListN.{length}
 use lib.Seq.{sets, length-sets}
-use lib.Dec.{leb, eqb}
+use lib.Dec.{leb}
 use borrow.Author.Tests.{leb-true, leb-false, ne-eqb}
 use Rattle.rules.specs.Paper.{X, number}
 use Rattle.rules.specs.Step.{step}
@@ -19,10 +19,11 @@ use Rattle.records.specs.declared.Found.the-variants.{Whole, Refused, End}
 use Rattle.lines.specs.Lines.{Text, lineOf, placed}
 use Rattle.lines.proofs.Output.{fits, unfit}
 use Rattle.lines.proofs.Lengths.{some}
-use Rattle.recording.specs.Turns.{placeAt, stopped, turns}
-use Rattle.recording.specs.Steps.{Stretch, stretch, after, fitting, taken, ahead, ended, shown}
-use Rattle.recording.specs.declared.Stepped.{Stepped}
-use Rattle.recording.proofs.Bound.{every-record}
+use Rattle.transcript.specs.Turns.{placeAt, stopped}
+use Rattle.transcript.specs.Steps.{Stretch, stretch, after, fitting, shown}
+use Rattle.recording.specs.Parts.{taken, ahead, ended}
+use Rattle.transcript.specs.declared.Stepped.{Stepped}
+use Rattle.transcript.proofs.Bound.{every-record}
 use Rattle.recording.proofs.Reached.{Reached, begin, write, finish}
 
 abbrev Outcome : Type 0

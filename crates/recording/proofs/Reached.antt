@@ -1,17 +1,13 @@
 -- How far a step has filled its output: `whole` is what it will have written in the end, `q` what is still to come of that.
 use mathlib.Core.Path.{_≡_, refl, ap, sym, _∙_}
-use mathlib.Core.Bool.{Bool, true, false, cond}
-use mathlib.Core.List.{List, [], _∷_, _++_, append-assoc, append-nil}
-use Prim.Native.Nat.{ℕ, _+_, _-_, _<_, _≤_}
-use native.Mathlib.Nat.{add-zero}
+use mathlib.Core.List.{List, [], _++_, append-assoc, append-nil}
+use Prim.Native.Nat.{ℕ, _+_, _-_, _≤_}
 use native.Mathlib.Omega.{arith}
 use lib.ListN.{length, take, drop, length-append, take-append-drop}
 use lib.Seq.{sets, sets-eq, length-sets, take-at, drop-at, drop-drop, length-take-le}
-use lib.Dec.{leb}
-use Rattle.lines.specs.Lines.{Text, placed}
-use Rattle.lines.proofs.Output.{fits}
-use Rattle.recording.specs.Steps.{Stretch, stretch, after, shown}
-use Rattle.recording.specs.declared.Place.{Place}
+use Rattle.lines.specs.Lines.{Text}
+use Rattle.transcript.specs.Steps.{Stretch, stretch, after, shown}
+use Rattle.transcript.specs.declared.Place.{Place}
 
 pub record Reached (whole : Stretch) (out₀ out : List ℕ) (n : ℕ) (q : Stretch) : Type 0 where
   pub text : whole ≡ after (take n out) q

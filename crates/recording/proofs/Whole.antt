@@ -1,18 +1,18 @@
 -- A step, by the tests that come before the records: over, 1, 13, or record by record.
-use mathlib.Core.Path.{_≡_, refl, ap, sym, _∙_}
+use mathlib.Core.Path.{_≡_, ap}
 use mathlib.Core.Bool.{true, false}
 use mathlib.Core.List.{List}
 use Prim.Native.Nat.{ℕ, _-_, _<_, _≤_}
-use native.Mathlib.Omega.{arith}
 use lib.ListN.{length}
 use borrow.Author.Tests.{eq-eqb, ne-eqb, lt-ltb, le-ltb}
 use Rattle.rules.specs.Paper.{X}
 use Rattle.lines.specs.Lines.{lineOf}
-use Rattle.recording.specs.Turns.{placeAt, stopped}
-use Rattle.recording.specs.Transcript.{turnsFrom}
-use Rattle.recording.specs.Steps.{Stretch, fitting, ahead, ended, shown, replayed}
-use Rattle.recording.specs.declared.Place.{Place}
-use Rattle.recording.specs.declared.Stepped.{Stepped}
+use Rattle.transcript.specs.Turns.{placeAt, stopped}
+use Rattle.transcript.specs.Transcript.{turnsFrom}
+use Rattle.transcript.specs.Steps.{Stretch, fitting, shown, replayed}
+use Rattle.recording.specs.Parts.{ahead, ended}
+use Rattle.transcript.specs.declared.Place.{Place}
+use Rattle.transcript.specs.declared.Stepped.{Stepped}
 use Rattle.recording.proofs.Reached.{begin}
 use Rattle.recording.proofs.Ahead.{stops}
 

@@ -6,6 +6,8 @@ use records::Found;
 use rules::Answer;
 use rules::Event;
 use rules::Refusal;
+use transcript::Place;
+use transcript::Stepped;
 ghost use mathlib.Core.Path.{_≡_};
 ghost use Prim.Native.Nat.{_≤_};
 ghost use lib.ListN.{length};
@@ -13,19 +15,8 @@ ghost use lib.Dec.{leb};
 ghost use Rattle.rules.specs.Paper.{X, number};
 ghost use Rattle.rules.specs.Step.{step};
 ghost use Rattle.lines.specs.Lines.{lineOf};
-ghost use Rattle.recording.specs.Steps.{taken, ended, ahead, shown, replayed};
-
-// How far a replay came: the place of the next record, and whether it is over.
-pub struct Place {
-    pub at: usize,
-    pub over: bool,
-}
-
-// What one step did: how far the replay is then, and how many bytes of the output were written.
-pub struct Stepped {
-    pub place: Place,
-    pub written: usize,
-}
+ghost use Rattle.transcript.specs.Steps.{shown, replayed};
+ghost use Rattle.recording.specs.Parts.{taken, ended, ahead};
 
 const WORDS: usize = 100;
 

@@ -3,7 +3,7 @@
 
 use libc::STDIN_FILENO;
 use libc::STDOUT_FILENO;
-use recording::Place;
+use transcript::Place;
 ghost use mathlib.Core.Path.{_≡_};
 ghost use Prim.Native.Nat.{_+_, _≤_};
 ghost use lib.ListN.{length};

@@ -1,2 +1,5 @@
 pub mod Values
 pub mod Papers
+pub mod Outcomes
+pub mod Bools
+pub mod Masks

@@ -11,6 +11,7 @@ use Rattle.rules.specs.Keys.{keyOf}
 use Rattle.rules.specs.Words.{bit, frozen}
 use Rattle.rules.specs.Addresses.{inRegisters}
 use Rattle.rules.specs.References.{marksOf, sr0After}
+use Rattle.rules.proofs.Bools.{bit-small}
 
 -- a field of k bits from bit j, of x | m where m has none of its bits, and of x & m where m has all of them
 or-field : (j k x m : ℕ) → m / 2 ^ j % 2 ^ k ≡ 0 → bitOr x m / 2 ^ j % 2 ^ k ≡ x / 2 ^ j % 2 ^ k
@@ -33,10 +34,6 @@ pub record SameFields (old new : ℕ) : Type 0 where
 
 pub same-fields : (pdr : ℕ) → SameFields pdr pdr
 same-fields pdr = record { key = refl; ed = refl; len = refl }
-
-pub bit-small : (x : Bool) → bit x < 2
-bit-small true = omega arith
-bit-small false = omega arith
 
 -- a mask that keeps the fields: a PAR write's 177477, a PDR write's 077417
 pub masked : (pdr mask : ℕ) → mask % 8 ≡ 7 → mask / 8 % 2 ≡ 1 → mask / 256 % 128 ≡ 127 → SameFields pdr (bitAnd pdr mask)

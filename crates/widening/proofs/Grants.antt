@@ -19,8 +19,8 @@ use Rattle.rules.specs.Step.{step, accepted}
 use Rattle.rules.specs.declared.Reference.{Reference}
 use Rattle.rules.specs.declared.Event.the-variants.{Refer}
 use Rattle.widening.specs.LastMap.{On, Granted, inPhase}
+use Rattle.rules.proofs.Bools.{cond-first, place-small}
 use Rattle.widening.proofs.Wider.{PageWider, Wider}
-use Rattle.widening.proofs.Stays.{place-small}
 
 -- rule 3: the page that a reference uses
 abbrev pub pageFor : List ℕ → Reference → ℕ
@@ -32,10 +32,6 @@ pub record Grant (l : List ℕ) (r : Reference) (byte : ℕ) : Type 0 where
   pub legal : eqb (r .mode) 2 ≡ false
   pub free : aborts (word l (PDR (pageFor l r))) (eqb (r .access) 1) (r .va) ≡ false
   pub lies : byte ≡ byteOf (word l (pageFor l r)) (r .va)
-
-cond-first : (x : Bool) (a b : Paper × List ℕ) → cond x a b .0 ≡ cond x (a .0) (b .0)
-cond-first true a b = refl
-cond-first false a b = refl
 
 -- the tests of an answer: x accepted, y relocation on, z mode 2, a an abort
 answer : Bool → Bool → Bool → Bool → (n f : ℕ) → (p q s : Bool) → ℕ → Bool → Paper

@@ -17,7 +17,7 @@ use Rattle.widening.specs.Reaches.{isMode, reaches}
 use Rattle.widening.specs.Runs.{after, calm}
 use Rattle.widening.specs.LastMap.{On, Granted, Kept, GrantsReached, ReachGrows, NeverShared, StaysOn, Demand3}
 use Rattle.widening.proofs.Wider.{Wider}
-use Rattle.widening.proofs.Stays.{first-small}
+use Rattle.rules.proofs.Bools.{first-small}
 use Rattle.widening.proofs.Steps.{calm-append, stays-on, later-wider}
 use Rattle.widening.proofs.Grants.{grant-of, granted-of, grant-kept, no-flag, no-length-error, pageFor}
 use Rattle.widening.proofs.Reached.{reached, reaching, apart-is}

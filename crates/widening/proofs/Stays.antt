@@ -17,7 +17,8 @@ use Rattle.rules.specs.Words.{word, PDR, SR0, SR1, SR2, SR3, relocates, frozen}
 use Rattle.rules.specs.References.{referred, illegalMode, examined, ruled, placeOf, usesD, details, nonResidentFlag, readOnlyFlag, aborts, condition, traps, marksOf, abortFlags, trapFlag, sr0After}
 use Rattle.rules.specs.Others.{started, noted, withChange}
 use Rattle.rules.specs.declared.Reference.{Reference}
-use Rattle.widening.proofs.Fields.{SameFields, same-fields, bit-small, marked, sr0-low}
+use Rattle.rules.proofs.Bools.{cond-last, place-small}
+use Rattle.widening.proofs.Fields.{SameFields, same-fields, marked, sr0-low}
 use Rattle.widening.proofs.Wider.{SameMap}
 
 -- a word after a store at place i: the value there, and elsewhere the word that was
@@ -50,10 +51,6 @@ same-either : (l : List ℕ) (x : Bool) (a b : List ℕ) → SameMap l a → Sam
 same-either l true a b h k = h
 same-either l false a b h k = k
 
-cond-last : (x : Bool) (a b : Paper × List ℕ) → cond x a b .1 ≡ cond x (a .1) (b .1)
-cond-last true a b = refl
-cond-last false a b = refl
-
 -- a store to SR0, SR1 or SR2 that keeps bit 0 of SR0
 set-status : (l : List ℕ) (i v : ℕ) → 96 ≤ i → i < 99 → length l ≡ 100 → (SR0 ≡ i → v % 2 ≡ word l SR0 % 2) → SameMap l (set l i v)
 set-status l i v low high whole kept =
@@ -83,15 +80,6 @@ set-sr0 : (l : List ℕ) (sr0 flags loaded : ℕ) → length l ≡ 100 → sr0 %
 set-sr0 l sr0 flags loaded whole low f d =
     set-status l SR0 (sr0After sr0 flags loaded) (omega arith) (omega arith) whole (λ e. sr0-low sr0 flags loaded f d ∙ low)
 
--- rule 3 finds one of the 48 pages
-pub first-small : (x y : Bool) → cond x 0 (cond y 16 32) ≤ 32
-first-small true y = omega arith
-first-small false true = omega arith
-first-small false false = omega arith
-
-pub place-small : (mode : ℕ) (d : Bool) (va : ℕ) → placeOf mode d va < 48
-place-small mode d va = omega (arith, first-small (eqb mode 0) (eqb mode 1), bit-small d)
-
 module _ (l : List ℕ) (whole : length l ≡ 100) where
   ruled-same : (page : ℕ) (write : Bool) (loaded va : ℕ) → page < 48 → loaded % 2 ≡ 0 → SameMap l (ruled l page write loaded va .1)
   unfolding ruled
@@ -103,7 +91,7 @@ module _ (l : List ℕ) (whole : length l ≡ 100) where
       let s = set-pdr l page marks small whole (marked pdr byte (condition pdr write) write) in
       let trap = trapFlag (traps (word l SR0) pdr write) in
       let flags = abortFlags (nonResidentFlag pdr) (lengthError pdr (blockOf va)) (readOnlyFlag pdr write) in
-      rw cond-last
+      simp cond-last
       (same-either l (aborts pdr write va) _ _ (set-sr0 l (word l SR0) flags loaded whole refl (omega arith) even)
       (same-trans l m _ s (set-sr0 m (word l SR0) trap loaded (s .size ∙ whole) (sym (s .sr0)) (omega arith) even)))
 

@@ -1,3 +1,4 @@
+-- The digit of a flag, by cases.
 use Rattle.lines.proofs.flag.Statement.{statement}
 use Rattle.lines.proofs.flag.Tie as tie
 

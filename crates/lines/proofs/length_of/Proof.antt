@@ -1,3 +1,4 @@
+-- The length of each kind of line computes.
 use Rattle.lines.specs.Lines.{lineOf}
 use borrow.Author.Needs.{needs}
 use Rattle.lines.proofs.length_of.Statement.{statement}

@@ -1,3 +1,4 @@
+-- The line is written where it fits, and nothing where it does not.
 use Rattle.lines.proofs.Output.{fits, unfit}
 use native.Mathlib.Omega.{arith}
 use mathlib.Core.Path.{sym}

@@ -1,3 +1,4 @@
+-- Each kind of answer writes its own line.
 use Rattle.lines.specs.Lines.{lineOf}
 use borrow.Author.Needs.{needs}
 use Rattle.lines.proofs.put_fitting.Statement.{statement}

@@ -1,3 +1,4 @@
+-- The stores are the line's characters, one after the other.
 use Rattle.lines.proofs.Places.{place}
 use Rattle.lines.specs.Lines.{lineOf}
 use native.Mathlib.Omega.{arith}

@@ -1,3 +1,4 @@
+-- The stores are the six digits, one after the other.
 use lib.ListN.{length-set}
 use native.Mathlib.Omega.{arith}
 use borrow.Author.Needs.{needs}

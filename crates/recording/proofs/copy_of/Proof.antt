@@ -6,7 +6,6 @@ use native.Mathlib.Numerals.{add-one}
 use native.Mathlib.Omega.{arith}
 use lib.ListN.{length, take, getD, set, length-set}
 use lib.Seq.{take-suc, take-suc-set, take-all}
-use borrow.Author.Needs.{needs}
 use Rattle.recording.proofs.copy_of.Statement.{statement}
 use Rattle.recording.proofs.copy_of.Tie as tie
 

@@ -1,3 +1,4 @@
+-- No line is longer than the longest.
 use Rattle.lines.proofs.Lengths.{most}
 use Rattle.lines.specs.Lines.{lineOf}
 use Rattle.rules.specs.Step.{step}

@@ -1,7 +1,8 @@
+-- The copy gives the answer that the store would give.
 use Rattle.rules.specs.Paper.{Paper}
 use Prim.Native.Nat.{ℕ}
 use mathlib.Core.List.{List}
-use mathlib.Core.Path.{ap, _∙_}
+use mathlib.Core.Path.{ap}
 use borrow.Author.Needs.{needs}
 use Rattle.recording.proofs.fits_tried.Statement.{statement}
 use Rattle.recording.proofs.fits_tried.Tie as tie

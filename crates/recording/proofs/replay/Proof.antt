@@ -1,3 +1,4 @@
+-- The tests before the records, in the order of 01.
 use Rattle.recording.proofs.Whole.{when-over, when-store, when-long, when-records}
 use mathlib.Core.Path.{_∙_}
 use borrow.Author.Needs.{needs}

@@ -1,12 +1,11 @@
 -- The loop keeps to the stretch that the step will show: `Reached` holds at each record, and the place moves on.
-use mathlib.Core.Path.{_≡_, refl, ap, sym, _∙_}
-use mathlib.Core.List.{List}
-use Prim.Native.Nat.{ℕ, _-_, _≤_}
+use mathlib.Core.Path.{_≡_, sym, _∙_}
+use Prim.Native.Nat.{_-_}
 use native.Mathlib.Omega.{arith}
 use lib.ListN.{length}
 use borrow.Author.Needs.{needs}
 use Rattle.records.proofs.Laws.{advances}
-use Rattle.recording.specs.Steps.{ahead}
+use Rattle.recording.specs.Parts.{ahead}
 use Rattle.recording.proofs.Reached.{Reached}
 use Rattle.recording.proofs.Ahead.{begins, ends, refused, takes, leaves}
 use Rattle.recording.proofs.replay_records.Statement.{statement}

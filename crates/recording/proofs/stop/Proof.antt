@@ -1,6 +1,7 @@
-use Rattle.recording.specs.declared.Stepped.{Stepped}
-use Rattle.recording.specs.Steps.{ended}
-use Rattle.recording.specs.Turns.{placeAt}
+-- The last line is put where it fits, and whether it was is whether anything was written.
+use Rattle.transcript.specs.declared.Stepped.{Stepped}
+use Rattle.recording.specs.Parts.{ended}
+use Rattle.transcript.specs.Turns.{placeAt}
 use Rattle.rules.specs.Paper.{X, number}
 use Rattle.lines.specs.Lines.{lineOf}
 use Rattle.lines.proofs.Output.{within}

@@ -1,4 +1,5 @@
-use Rattle.recording.specs.Steps.{taken}
+-- Where the line fits, the event is applied and its line put; else nothing happens.
+use Rattle.recording.specs.Parts.{taken}
 use Rattle.lines.specs.Lines.{lineOf, placed}
 use Rattle.rules.specs.declared.Event.{Event}
 use Rattle.rules.specs.Step.{step}

@@ -1,3 +1,4 @@
+-- The amount is the byte, or the byte less 256, in signed arithmetic that loses nothing.
 use Rattle.records.proofs.Amounts.{plain, above, below, fits}
 use native.Mathlib.Omega.{arith}
 use mir.ValLaws.{toZ-ofZ}

@@ -1,8 +1,7 @@
+-- Each kind's event: an arm of the match is a test of `eventOf`, and its body lies within the recording.
 use native.Mathlib.Omega.{arith}
 use Rattle.records.specs.Records.{eventOf}
-use Rattle.rules.specs.declared.Event.the-variants.{Refer, Read, Write, Instruction, Interrupt}
 use borrow.Author.Tests.{ne-eqb}
-use mathlib.Core.Path.{ap}
 use borrow.Author.Needs.{needs}
 use Rattle.records.proofs.event_at.Statement.{statement}
 use Rattle.records.proofs.event_at.Tie as tie

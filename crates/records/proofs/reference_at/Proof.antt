@@ -1,3 +1,4 @@
+-- The five fields are those of `referenceAt`, each by what its reading ensures.
 use borrow.Author.Needs.{needs}
 use Rattle.records.proofs.reference_at.Statement.{statement}
 use Rattle.records.proofs.reference_at.Tie as tie

@@ -1,14 +1,13 @@
 -- The text written lies within its buffer, and each step leaves fewer: so the loop goes on to the end of the transcript.
 use mathlib.Core.Path.{_≡_, refl, sym, _∙_}
-use Prim.Native.Nat.{_≤_}
 use native.Mathlib.Omega.{arith}
 use lib.ListN.{length}
 use lib.Seq.{length-take-le}
 use borrow.Author.Needs.{needs}
 use borrow.Author.Tests.{not-true}
-use Rattle.recording.specs.Turns.{placeAt}
-use Rattle.recording.specs.Claims.{stepsLeft}
-use Rattle.recording.proofs.Promise.{within, fewer}
+use Rattle.transcript.specs.Turns.{placeAt}
+use Rattle.transcript.specs.Claims.{stepsLeft}
+use Rattle.transcript.proofs.Promise.{within, fewer}
 use Rattle.replay.proofs.write_transcript.Statement.{statement}
 use Rattle.replay.proofs.write_transcript.Tie as tie
 

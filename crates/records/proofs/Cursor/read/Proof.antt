@@ -1,3 +1,4 @@
+-- What stands at the cursor, by the tests that led to each return.
 use native.Mathlib.Omega.{arith}
 use Rattle.records.proofs.Laws.{known-zero, known-above, known-within, at-end, at-unknown, at-cut, at-whole}
 use mathlib.Core.Path.{sym}

@@ -1,0 +1,165 @@
+//! Runs two replay programs on the same recordings, fixed and drawn, and
+//! compares what they write, byte for byte.
+
+use std::collections::BTreeMap;
+use std::process::{exit, ExitCode};
+
+use compare::options::Options;
+use compare::programs::Program;
+use compare::random::Random;
+use compare::recordings::{fixed, recording, whole_case, WHOLE_CASE_TEXT};
+use compare::shrink::shrink_list;
+
+const USAGE: &str = "compare-replay [--recordings N] [--seed N] [--emulator COMMAND] PROVED PEER\n\
+     COMMAND, as \"qemu-x86_64\", runs the program PROVED";
+const RECORDINGS: u64 = 1_000;
+
+/// The line beginnings that a run must have met: each answer and refusals 2 to 13.
+const WANTED: [&str; 16] = [
+    "G", "A", "R", "D", "X 02", "X 03", "X 04", "X 05", "X 06", "X 07", "X 08", "X 09", "X 10",
+    "X 11", "X 12", "X 13",
+];
+
+struct Programs {
+    proved: Program,
+    peer: Program,
+}
+
+fn main() -> ExitCode {
+    let mut options = Options::new(USAGE);
+    let drawn = options.number("--recordings", RECORDINGS);
+    let seed = options.number("--seed", 1);
+    let emulator = options.text("--emulator");
+    let paths = options.rest(2);
+    let programs = Programs {
+        proved: Program::new(emulator.as_deref(), &paths[0]),
+        peer: Program::new(None, &paths[1]),
+    };
+
+    programs.check_whole_case();
+    let mut random = Random::new(seed);
+    let recordings = fixed()
+        .into_iter()
+        .chain((0..drawn).map(|_| recording(&mut random)));
+    let mut lines = BTreeMap::new();
+    let mut passed = 0;
+    for bytes in recordings {
+        match programs.same(&bytes) {
+            Some(text) => count_lines(&text, &mut lines),
+            None => {
+                programs.report(&bytes);
+                println!("{passed} passed, 1 failed");
+                return ExitCode::FAILURE;
+            }
+        }
+        passed += 1;
+    }
+    for (beginning, count) in &lines {
+        println!("{count:>12}  {beginning}");
+    }
+    let missed = WANTED.iter().filter(|wanted| !lines.contains_key(**wanted));
+    let missed = missed.inspect(|wanted| println!("never met: {wanted}"));
+    let failed = missed.count();
+    println!("{passed} recordings ({drawn} drawn from seed {seed}): the same text");
+    println!("{} passed, {failed} failed", passed + WANTED.len() - failed);
+    ExitCode::from(u8::from(failed != 0))
+}
+
+impl Programs {
+    /// 01's own recording, held to 01's own text: a program that can't be run stops here.
+    fn check_whole_case(&self) {
+        for program in [&self.proved, &self.peer] {
+            match program.run(&whole_case()) {
+                Ok(text) if text == WHOLE_CASE_TEXT.as_bytes() => {}
+                Ok(text) => {
+                    println!("the whole case gives\n{}", String::from_utf8_lossy(&text));
+                    exit(1);
+                }
+                Err(message) => {
+                    eprintln!("compare-replay: {message}");
+                    exit(2);
+                }
+            }
+        }
+    }
+
+    /// The text, if both programs write the same and neither fails.
+    fn same(&self, recording: &[u8]) -> Option<Vec<u8>> {
+        let proved = self.proved.run(recording).ok()?;
+        let peer = self.peer.run(recording).ok()?;
+        (proved == peer).then_some(proved)
+    }
+
+    /// Prints the smallest recording found on which they differ, and both texts.
+    fn report(&self, recording: &[u8]) {
+        let mut records = split(recording);
+        shrink_list(&mut records, |some| self.same(&some.concat()).is_none());
+        let mut bytes = records.concat();
+        shrink_list(&mut bytes, |some| self.same(some).is_none());
+        println!("a difference, in a recording of {} bytes:", bytes.len());
+        print_runs(split(&bytes).iter().map(|record| hex(record)));
+        print_text("proved", self.proved.run(&bytes));
+        print_text("peer", self.peer.run(&bytes));
+    }
+}
+
+/// The records of a recording; what is left from the first bad one stays whole.
+fn split(mut bytes: &[u8]) -> Vec<Vec<u8>> {
+    let mut records = Vec::new();
+    while let Some(kind) = bytes.first() {
+        let length = match kind {
+            1 => 7,
+            2 => 4,
+            3 => 6,
+            4..=6 => 3,
+            7 => 1,
+            _ => bytes.len(),
+        };
+        let (record, rest) = bytes.split_at(length.min(bytes.len()));
+        records.push(record.to_vec());
+        bytes = rest;
+    }
+    records
+}
+
+fn hex(record: &[u8]) -> String {
+    let bytes: Vec<String> = record.iter().map(|byte| format!("{byte:02X}")).collect();
+    bytes.join(" ")
+}
+
+fn print_text(name: &str, text: Result<Vec<u8>, String>) {
+    println!("{name} writes");
+    match text {
+        Ok(text) => {
+            let text = String::from_utf8_lossy(&text);
+            print_runs(text.lines().map(str::to_string));
+        }
+        Err(message) => println!("  nothing to compare: {message}"),
+    }
+}
+
+/// Prints lines, equal ones that follow each other as one with their number.
+fn print_runs(lines: impl Iterator<Item = String>) {
+    let mut runs: Vec<(String, u64)> = Vec::new();
+    for line in lines {
+        match runs.last_mut() {
+            Some((last, count)) if *last == line => *count += 1,
+            _ => runs.push((line, 1)),
+        }
+    }
+    for (line, count) in runs {
+        match count {
+            1 => println!("  {line}"),
+            _ => println!("  {line}  ({count} times)"),
+        }
+    }
+}
+
+/// Counts lines by their beginnings: a letter, and with X the number.
+fn count_lines(text: &[u8], lines: &mut BTreeMap<String, u64>) {
+    for line in String::from_utf8_lossy(text).lines() {
+        let length = if line.starts_with('X') { 4 } else { 1 };
+        let beginning = line.get(..length).unwrap_or(line);
+        *lines.entry(beginning.to_string()).or_default() += 1;
+    }
+}

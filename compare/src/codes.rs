@@ -1,0 +1,103 @@
+//! The one number of an answer (include/kt11c.h), both ways.
+
+use peer::Answer;
+
+/// A number that is no answer's: an unknown kind, or a bit its kind does not have.
+#[derive(Clone, Copy, Debug, PartialEq, Eq)]
+pub struct Stray(pub u32);
+
+const GRANTED: u32 = 1 << 28;
+const ABORTED: u32 = 2 << 28;
+const WORD: u32 = 3 << 28;
+const DONE: u32 = 4 << 28;
+const REFUSED: u32 = 5 << 28;
+
+/// The number of an answer.
+#[inline(always)]
+pub fn encode(answer: Answer) -> u32 {
+    match answer {
+        Answer::Granted { byte, trap } => GRANTED | u32::from(trap) << 24 | byte,
+        Answer::Aborted {
+            nonresident,
+            length,
+            readonly,
+        } => ABORTED | u32::from(nonresident) << 2 | u32::from(length) << 1 | u32::from(readonly),
+        Answer::Word(word) => WORD | u32::from(word),
+        Answer::Done => DONE,
+        Answer::Refused(number) => REFUSED | u32::from(number),
+    }
+}
+
+/// The answer of a number. The fields are read, and must make the whole number again.
+pub fn decode(code: u32) -> Result<Answer, Stray> {
+    let answer = match code & 0xf000_0000 {
+        GRANTED => Answer::Granted {
+            byte: code & 0o777777,
+            trap: code >> 24 & 1 == 1,
+        },
+        ABORTED => Answer::Aborted {
+            nonresident: code >> 2 & 1 == 1,
+            length: code >> 1 & 1 == 1,
+            readonly: code & 1 == 1,
+        },
+        WORD => Answer::Word(code as u16),
+        DONE => Answer::Done,
+        REFUSED => Answer::Refused((code & 0xf) as u8),
+        _ => return Err(Stray(code)),
+    };
+    if encode(answer) == code && has_meaning(answer) {
+        Ok(answer)
+    } else {
+        Err(Stray(code))
+    }
+}
+
+/// An abort has a flag, and an event's refusal is 1 to 10.
+fn has_meaning(answer: Answer) -> bool {
+    match answer {
+        Answer::Aborted {
+            nonresident,
+            length,
+            readonly,
+        } => nonresident | length | readonly,
+        Answer::Refused(number) => (1..=10).contains(&number),
+        _ => true,
+    }
+}
+
+#[cfg(test)]
+mod tests {
+    use super::*;
+
+    #[test]
+    fn numbers_of_the_header() {
+        let trapped = Answer::Granted {
+            byte: 0o777777,
+            trap: true,
+        };
+        assert_eq!(decode(0x1103_ffff), Ok(trapped));
+        assert_eq!(decode(0x3000_7f06), Ok(Answer::Word(0o077406)));
+        assert_eq!(decode(0x4000_0000), Ok(Answer::Done));
+        assert_eq!(decode(0x5000_000a), Ok(Answer::Refused(10)));
+    }
+
+    #[test]
+    fn stray_bits_are_no_answer() {
+        for code in [
+            0x0000_0000,
+            0x1004_0000,
+            0x1200_0000,
+            0x2000_0000,
+            0x2000_0008,
+            0x3001_0000,
+            0x4000_0001,
+            0x5000_0000,
+            0x5000_000b,
+            0x5000_0011,
+            0x6000_0000,
+            0xffff_ffff,
+        ] {
+            assert_eq!(decode(code), Err(Stray(code)), "{code:08x}");
+        }
+    }
+}

@@ -1,0 +1,19 @@
+//! The proved KT11-C, a static library, beside the independent Rust version:
+//! what both are run on, and how what they do is compared and timed.
+
+pub mod codes;
+mod counts;
+pub mod draw;
+pub mod edges;
+pub mod fields;
+pub mod history;
+pub mod options;
+pub mod print;
+pub mod programs;
+pub mod proved;
+pub mod race;
+pub mod random;
+pub mod readings;
+pub mod recordings;
+pub mod shrink;
+pub mod slips;

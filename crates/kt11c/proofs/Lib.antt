@@ -1,4 +1,0 @@
-pub mod Modes
-pub mod Pages
-pub mod Steps
-pub mod Amounts

@@ -1,4 +1,0 @@
-pub mod Accepted
-pub mod Found
-pub mod Starts
-pub mod Changes

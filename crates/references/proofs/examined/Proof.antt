@@ -1,0 +1,33 @@
+-- `examined` meets its contract: the ruling by value, stored back, is the ruling over the store.
+use mathlib.Core.Path.{_≡_}
+use borrow.Author.Needs.{needs}
+use Rattle.rules.specs.References.{examined}
+use Rattle.references.proofs.Pages.{by-value}
+use Rattle.references.proofs.examined.Statement.{statement}
+use Rattle.references.proofs.examined.Tie as tie
+
+returns : tie.Need-returns
+unfolding examined
+returns c = rw (← c .before .before .before .before .before .before .before .enables-d .ensures, ← c .before .before .before .before .before .before .place-of .ensures .0, ← c .before .details .ensures, by-value, ← c .rule .ensures)
+
+pub examined-spec : {M : Type 1} → statement M
+examined-spec =
+    tie.close
+    (tie.spec
+    (λ c. search needs)
+    (λ c κs. search needs)
+    (λ c κs. search needs)
+    (λ c. search needs)
+    (λ c. search needs)
+    (λ c. search needs)
+    (λ c. search needs)
+    (λ c. search needs)
+    (λ c. search needs)
+    (λ c κs. search needs)
+    (λ c κs. search needs)
+    (λ c. search needs)
+    (λ c. search needs)
+    (λ c. search needs)
+    (λ c. search needs)
+    (λ c. search needs)
+    returns)

@@ -1,0 +1,60 @@
+-- Small facts about bools, choices and the numbers of flags and places that the proofs share.
+use mathlib.Core.Path.{_≡_, refl, sym}
+use mathlib.Core.Bool.{Bool, true, false, cond, not, _&&_, _||_, false≢true, true≢false}
+use mathlib.Core.List.{List}
+use Prim.Native.Nat.{ℕ, _+_, _*_, _≤_, _<_}
+use native.Mathlib.Omega.{arith}
+use lib.Dec.{eqb}
+use lib.ListN.{getD, length}
+use Rattle.rules.specs.Words.{bit}
+use Rattle.rules.specs.References.{placeOf}
+
+pub and-l : (a b : Bool) → (a && b) ≡ true → a ≡ true
+and-l true b h = refl
+and-l false b h = h
+
+pub and-r : (a b : Bool) → (a && b) ≡ true → b ≡ true
+and-r true b h = h
+and-r false b h = absurd (false≢true h)
+
+pub or-l : (a b : Bool) → (a || b) ≡ false → a ≡ false
+or-l true b h = h
+or-l false b h = refl
+
+pub or-r : (a b : Bool) → (a || b) ≡ false → b ≡ false
+or-r true b h = absurd (true≢false h)
+or-r false b h = h
+
+-- a projection goes through a choice
+pub cond-first : {A B : Type 0} (b : Bool) (x y : A × B) → cond b x y .0 ≡ cond b (x .0) (y .0)
+cond-first true x y = refl
+cond-first false x y = refl
+
+pub cond-last : {A B : Type 0} (b : Bool) (x y : A × B) → cond b x y .1 ≡ cond b (x .1) (y .1)
+cond-last true x y = refl
+cond-last false x y = refl
+
+pub cond-getD : (b : Bool) (k l : List ℕ) (i : ℕ) → getD (cond b k l) i 0 ≡ cond b (getD k i 0) (getD l i 0)
+cond-getD true k l i = refl
+cond-getD false k l i = refl
+
+pub cond-length : (b : Bool) (k l : List ℕ) → length (cond b k l) ≡ cond b (length k) (length l)
+cond-length true k l = refl
+cond-length false k l = refl
+
+pub cond-same : {A : Type 0} (b : Bool) (x : A) → cond b x x ≡ x
+cond-same true x = refl
+cond-same false x = refl
+
+pub bit-small : (b : Bool) → bit b ≤ 1
+bit-small true = omega arith
+bit-small false = omega arith
+
+-- rule 3 finds one of the 48 pages
+pub first-small : (x y : Bool) → cond x 0 (cond y 16 32) ≤ 32
+first-small true y = omega arith
+first-small false true = omega arith
+first-small false false = omega arith
+
+pub place-small : (mode : ℕ) (d : Bool) (va : ℕ) → placeOf mode d va < 48
+place-small mode d va = omega (arith, first-small (eqb mode 0) (eqb mode 1), bit-small d)

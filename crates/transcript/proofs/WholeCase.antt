@@ -1,0 +1,17 @@
+-- The whole case of 01: the definitions compute it.
+use mathlib.Core.Path.{refl}
+use Rattle.page.specs.Length.{lengthError}
+use Rattle.rules.specs.Addresses.{registerAt}
+use Rattle.rules.specs.References.{referred, illegalMode, examined, ruled}
+use Rattle.rules.specs.Registers.{writtenAt}
+use Rattle.rules.specs.Refusals.{refusalOf}
+use Rattle.rules.specs.Step.{step, accepted}
+use Rattle.records.specs.Records.{eventOf, recordAt}
+use Rattle.lines.specs.Lines.{lineOf}
+use Rattle.transcript.specs.Turns.{turns}
+use Rattle.transcript.specs.Transcript.{turnsFrom}
+use Rattle.transcript.specs.Claims.{WholeCase}
+
+pub whole-case : WholeCase
+unfolding turnsFrom turns recordAt eventOf lineOf step accepted refusalOf referred illegalMode examined ruled writtenAt lengthError registerAt
+whole-case = refl

@@ -1,0 +1,4 @@
+pub mod Turns
+pub mod Transcript
+pub mod Steps
+pub mod Claims
