@@ -1,0 +1,34 @@
+-- `audit` meets its contract: 1 and 13 first; then the course of the run, and the map of the store that it leaves.
+use mathlib.Core.Path.{_≡_, refl, ap, sym, _∙_}
+use mathlib.Core.List.{List}
+use Prim.Native.Nat.{ℕ}
+use borrow.Author.Needs.{needs}
+use borrow.Author.Tests.{lt-ltb, le-ltb, eq-eqb, ne-eqb}
+use Rattle.reach.specs.Parting.{partingOf}
+use Rattle.account.specs.declared.Course.{Course}
+use Rattle.account.specs.declared.Audited.{Audited}
+use Rattle.account.specs.declared.Audited.the-variants.{Done}
+use Rattle.account.specs.Reports.{auditOf}
+use Rattle.account.proofs.audit.Statement.{statement}
+use Rattle.account.proofs.audit.Tie as tie
+
+-- the report of a course and a last store
+abbrev reported : Course × List ℕ → Audited × List ℕ
+reported q = (Done (record { course = q .0; map = partingOf (q .1) }), q .1)
+
+returns : tie.Need-returns
+unfolding auditOf
+returns c = rw (ne-eqb _ _ (c .if1 .taken))
+
+returns-2 : tie.Need-returns-2
+unfolding auditOf
+returns-2 c = rw (eq-eqb _ _ (c .before .if1 .left), lt-ltb _ _ (c .if2 .taken))
+
+returns-3 : tie.Need-returns-3
+unfolding auditOf
+returns-3 c =
+    rw (c .apart .ensures, eq-eqb _ _ (c .before .before .before .before .before .before .before .if1 .left), le-ltb _ _ (c .before .before .before .before .before .before .if2 .left))
+    (ap reported (c .before .before .before .before .survey .ensures))
+
+pub audit-spec : {M : Type 1} → statement M
+audit-spec = tie.close (tie.spec returns returns-2 (λ c κs. search needs) (λ c κs. search needs) (λ c. search needs) returns-3)

@@ -1,0 +1,4 @@
+pub mod Firsts
+pub mod Reaching
+pub mod Parting
+pub mod Pass

@@ -1,0 +1,36 @@
+-- `put_map` meets its contract: each arm writes its line.
+use borrow.Author.Needs.{needs}
+use Rattle.wording.proofs.Chain.{then}
+use Rattle.wording.proofs.report.put_map.Statement.{statement}
+use Rattle.wording.proofs.report.put_map.Tie as tie
+
+returns : tie.Need-returns
+returns c = (rw (c .before .before .before .before .before .enum-told .given .1) (c .before .before .put .ensures), search needs)
+
+returns-2 : tie.Need-returns-2
+returns-2 c = (rw (c .before .before .before .before .before .map .given .1) (c .before .before .put-meeting .ensures .0), search needs)
+
+returns-3 : tie.Need-returns-3
+returns-3 c = (rw (c .before .before .before .before .before .before .before .before .before .before .before .before .before .before .before .map2 .given .1) (then (c .before .before .before .before .before .before .before .before .before .before .before .put2 .ensures) (then (c .before .before .before .before .before .before .before .put-number .ensures) (c .before .before .put3 .ensures))), search needs)
+
+pub put-map-spec : {M : Type 1} → statement M
+put-map-spec =
+    tie.close
+    (tie.spec
+    (λ c. search needs)
+    (λ c. search needs)
+    (λ c κs. search needs)
+    (λ c. search needs)
+    (λ c κs. search needs)
+    (λ c. search needs)
+    (λ c. search needs)
+    (λ c κs. search needs)
+    (λ c κs. search needs)
+    (λ c. search needs)
+    (λ c κs. search needs)
+    (λ c. search needs)
+    returns
+    (λ c. search needs)
+    returns-2
+    (λ c. search needs)
+    returns-3)
