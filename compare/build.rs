@@ -1,12 +1,21 @@
-//! Links the proved static library that KT11C_LIB names.
+//! Links the proved static libraries: the unit's, which KT11C_LIB names, and the one that replays a
+//! recording, which KT11C_TAPE names.
 
 use std::env;
 use std::path::Path;
 
 fn main() {
-    println!("cargo:rerun-if-env-changed=KT11C_LIB");
-    let Some(value) = env::var_os("KT11C_LIB") else {
-        stop("KT11C_LIB is not set: it names the proved static library, which tools/hostlib board OUT.a makes");
+    link("KT11C_LIB", "board");
+    link("KT11C_TAPE", "tape");
+}
+
+/// Links the library that a variable names; `tools/hostlib` makes it from a crate.
+fn link(variable: &str, made_from: &str) {
+    println!("cargo:rerun-if-env-changed={variable}");
+    let Some(value) = env::var_os(variable) else {
+        stop(&format!(
+            "{variable} is not set: it names the proved static library, which tools/hostlib {made_from} OUT.a makes"
+        ));
     };
     let path = Path::new(&value);
     let (true, true, Some(folder), Some(file)) = (
@@ -16,7 +25,7 @@ fn main() {
         path.file_name().and_then(|name| name.to_str()),
     ) else {
         stop(&format!(
-            "KT11C_LIB is {}, which is no absolute path of a file",
+            "{variable} is {}, which is no absolute path of a file",
             path.display()
         ));
     };

@@ -15,5 +15,6 @@ pub mod race;
 pub mod random;
 pub mod readings;
 pub mod recordings;
+pub mod replays;
 pub mod shrink;
 pub mod slips;

@@ -84,3 +84,26 @@ fn print_difference(at: usize, difference: &Difference) {
         println!("  {place:3} {name:18} proved {proved:06o} peer {peer:06o}");
     }
 }
+
+/// A record's bytes in hexadecimal.
+pub fn hex(record: &[u8]) -> String {
+    let bytes: Vec<String> = record.iter().map(|byte| format!("{byte:02X}")).collect();
+    bytes.join(" ")
+}
+
+/// Prints lines, equal ones that follow each other as one with their number.
+pub fn print_runs(lines: impl Iterator<Item = String>) {
+    let mut runs: Vec<(String, u64)> = Vec::new();
+    for line in lines {
+        match runs.last_mut() {
+            Some((last, count)) if *last == line => *count += 1,
+            _ => runs.push((line, 1)),
+        }
+    }
+    for (line, count) in runs {
+        match count {
+            1 => println!("  {line}"),
+            _ => println!("  {line}  ({count} times)"),
+        }
+    }
+}

@@ -1,10 +1,10 @@
-//! The proved library: the functions of include/kt11c.h, each behind a safe one.
+//! The proved libraries: the functions of include/kt11c.h, each behind a safe one.
 
 use peer::{Answer, Event};
 
 use crate::codes::{decode, Stray};
 
-/// The functions as C sees them. Each is owed a pointer to as many words as it is told.
+/// The functions as C sees them. Each is owed a pointer to as many words, or bytes, as it is told.
 pub mod raw {
     extern "C" {
         pub fn kt11c_reference(
@@ -22,6 +22,15 @@ pub mod raw {
         pub fn kt11c_interrupt(store: *mut u16, words: usize, vector: u16) -> u32;
         pub fn kt11c_change(store: *mut u16, words: usize, register: u32, amount: i32) -> u32;
         pub fn kt11c_init(store: *mut u16, words: usize) -> u32;
+        pub fn kt11c_replay(
+            store: *mut u16,
+            words: usize,
+            recording: *const u8,
+            bytes: usize,
+            at: usize,
+            out: *mut u8,
+            room: usize,
+        ) -> usize;
     }
 }
 
@@ -77,6 +86,25 @@ pub fn note_change(store: &mut [u16], register: u32, amount: i32) -> Answered {
 pub fn init(store: &mut [u16]) -> Answered {
     // SAFETY: as above.
     decode(unsafe { raw::kt11c_init(store.as_mut_ptr(), store.len()) })
+}
+
+/// The longest transcript: 8,191 register reads, three INITs and an unknown kind.
+pub const LONGEST_TEXT: usize = 73_730;
+
+/// A recording replayed from a place on, as far as whole lines fit; how many bytes were written.
+pub fn replay(store: &mut [u16], recording: &[u8], at: usize, out: &mut [u8]) -> usize {
+    // SAFETY: as above; the recording is only read, and the output is this call's alone.
+    unsafe {
+        raw::kt11c_replay(
+            store.as_mut_ptr(),
+            store.len(),
+            recording.as_ptr(),
+            recording.len(),
+            at,
+            out.as_mut_ptr(),
+            out.len(),
+        )
+    }
 }
 
 /// Applies one event.

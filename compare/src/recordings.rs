@@ -54,6 +54,13 @@ pub fn fixed() -> Vec<Vec<u8>> {
     all
 }
 
+/// The recording with the longest text, 73,730 bytes: register reads, three INITs, an unknown kind.
+pub fn longest() -> Vec<u8> {
+    let mut bytes = [2, 0x7a, 0xff, 0x03].repeat(LIMIT / 4 - 1);
+    bytes.extend([7, 7, 7, 0]);
+    bytes
+}
+
 /// 01's "Whole case".
 pub fn whole_case() -> Vec<u8> {
     vec![
@@ -137,4 +144,23 @@ fn damage(random: &mut Random, bytes: &mut Vec<u8>) {
             bytes.remove(at);
         }
     }
+}
+
+/// The records of a recording; what is left from the first bad one stays whole.
+pub fn split(mut bytes: &[u8]) -> Vec<Vec<u8>> {
+    let mut records = Vec::new();
+    while let Some(kind) = bytes.first() {
+        let length = match kind {
+            1 => 7,
+            2 => 4,
+            3 => 6,
+            4..=6 => 3,
+            7 => 1,
+            _ => bytes.len(),
+        };
+        let (record, rest) = bytes.split_at(length.min(bytes.len()));
+        records.push(record.to_vec());
+        bytes = rest;
+    }
+    records
 }

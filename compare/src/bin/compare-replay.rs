@@ -5,9 +5,10 @@ use std::collections::BTreeMap;
 use std::process::{exit, ExitCode};
 
 use compare::options::Options;
+use compare::print::{hex, print_runs};
 use compare::programs::Program;
 use compare::random::Random;
-use compare::recordings::{fixed, recording, whole_case, WHOLE_CASE_TEXT};
+use compare::recordings::{fixed, recording, split, whole_case, WHOLE_CASE_TEXT};
 use compare::shrink::shrink_list;
 
 const USAGE: &str = "compare-replay [--recordings N] [--seed N] [--emulator COMMAND] PROVED PEER\n\
@@ -103,30 +104,6 @@ impl Programs {
     }
 }
 
-/// The records of a recording; what is left from the first bad one stays whole.
-fn split(mut bytes: &[u8]) -> Vec<Vec<u8>> {
-    let mut records = Vec::new();
-    while let Some(kind) = bytes.first() {
-        let length = match kind {
-            1 => 7,
-            2 => 4,
-            3 => 6,
-            4..=6 => 3,
-            7 => 1,
-            _ => bytes.len(),
-        };
-        let (record, rest) = bytes.split_at(length.min(bytes.len()));
-        records.push(record.to_vec());
-        bytes = rest;
-    }
-    records
-}
-
-fn hex(record: &[u8]) -> String {
-    let bytes: Vec<String> = record.iter().map(|byte| format!("{byte:02X}")).collect();
-    bytes.join(" ")
-}
-
 fn print_text(name: &str, text: Result<Vec<u8>, String>) {
     println!("{name} writes");
     match text {
@@ -135,23 +112,6 @@ fn print_text(name: &str, text: Result<Vec<u8>, String>) {
             print_runs(text.lines().map(str::to_string));
         }
         Err(message) => println!("  nothing to compare: {message}"),
-    }
-}
-
-/// Prints lines, equal ones that follow each other as one with their number.
-fn print_runs(lines: impl Iterator<Item = String>) {
-    let mut runs: Vec<(String, u64)> = Vec::new();
-    for line in lines {
-        match runs.last_mut() {
-            Some((last, count)) if *last == line => *count += 1,
-            _ => runs.push((line, 1)),
-        }
-    }
-    for (line, count) in runs {
-        match count {
-            1 => println!("  {line}"),
-            _ => println!("  {line}  ({count} times)"),
-        }
     }
 }
 

@@ -1,5 +1,6 @@
-//! Runs the proved library and the independent version side by side: 01's
-//! readings, then drawn events, the answer and every word compared after each.
+//! Runs the proved libraries and the independent version side by side: 01's readings,
+//! then drawn events, the answer and every word compared after each, then whole
+//! recordings, the text and every word compared.
 
 use std::process::ExitCode;
 
@@ -8,13 +9,17 @@ use compare::edges::Counts;
 use compare::history::{History, Pair};
 use compare::options::Options;
 use compare::print::print_history;
+use compare::proved::LONGEST_TEXT;
 use compare::random::Random;
 use compare::readings::{readings, run};
+use compare::recordings::{fixed, longest, recording};
+use compare::replays::Replay;
 use compare::shrink::shrink;
 use compare::slips::{slips, whole_case};
 
-const USAGE: &str = "compare [--events N] [--seed N]";
+const USAGE: &str = "compare [--events N] [--recordings N] [--seed N]";
 const EVENTS: u64 = 2_000_000;
+const RECORDINGS: u64 = 5_000;
 /// A history is begun anew, with another store, after this many events.
 const HISTORY: u64 = 300;
 
@@ -28,12 +33,14 @@ struct Tally {
 fn main() -> ExitCode {
     let mut options = Options::new(USAGE);
     let events = options.number("--events", EVENTS);
+    let drawn = options.number("--recordings", RECORDINGS);
     let seed = options.number("--seed", 1);
     options.rest(0);
 
     let mut tally = Tally::default();
     check_readings(&mut tally);
     check_events(&mut tally, events, seed);
+    check_recordings(&mut tally, drawn, seed);
     println!("{} passed, {} failed", tally.passed, tally.failed);
     ExitCode::from(u8::from(tally.failed != 0))
 }
@@ -105,5 +112,60 @@ fn check_counts(tally: &mut Tally, counts: &Counts, events: u64) {
     }
     for words in missed {
         println!("never met: {words}");
+    }
+}
+
+/// Recordings, fixed and drawn, up to the first difference: each whole from all registers 0,
+/// then from a drawn store, from a drawn place and into an output that may be short.
+fn check_recordings(tally: &mut Tally, drawn: u64, seed: u64) {
+    let mut random = Random::new(seed);
+    let mut all = fixed();
+    all.push(longest());
+    let mut longest = 0;
+    for at in 0..all.len() as u64 + drawn {
+        let bytes = match all.get(at as usize) {
+            Some(bytes) => bytes.clone(),
+            None => recording(&mut random),
+        };
+        for replay in [Replay::whole(bytes.clone()), part(&mut random, bytes)] {
+            match replay.same() {
+                Some(text) => longest = longest.max(text.len()),
+                None => {
+                    tally.failed += 1;
+                    println!("a difference, from seed {seed}:");
+                    replay.shrink().print();
+                    return;
+                }
+            }
+            tally.passed += 1;
+        }
+    }
+    println!(
+        "{} recordings ({drawn} drawn from seed {seed}), each whole and in part: every text and every word the same",
+        all.len() as u64 + drawn
+    );
+    if longest != LONGEST_TEXT {
+        tally.failed += 1;
+        println!("the longest text has {longest} bytes, not {LONGEST_TEXT}");
+    }
+}
+
+/// A replay from a drawn store and place, half of them into an output that is short.
+fn part(random: &mut Random, recording: Vec<u8>) -> Replay {
+    let at = match random.below(4) {
+        0 => 0,
+        1 => recording.len() + random.below(3) as usize,
+        _ => random.below(recording.len() as u32 + 1) as usize,
+    };
+    let room = match random.below(4) {
+        0 => random.below(40) as usize,
+        1 => random.below(4_000) as usize,
+        _ => LONGEST_TEXT,
+    };
+    Replay {
+        store: draw::store(random),
+        recording,
+        at,
+        room,
     }
 }

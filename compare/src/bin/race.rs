@@ -1,8 +1,10 @@
-//! Times the proved library against the independent version, row by row.
+//! Times the proved libraries against the independent version, row by row: events, then whole recordings.
 
 use compare::options::Options;
 use compare::race::inputs::rows;
-use compare::race::timing::{time, Times};
+use compare::race::recordings::tapes;
+use compare::race::replays::{self, Speeds};
+use compare::race::timing::{time, Spread, Times};
 
 const USAGE: &str = "race [--rounds N] [--seed N] [--row WORDS]";
 
@@ -17,6 +19,12 @@ fn main() {
     for row in rows(seed) {
         if row.name.contains(&only) {
             print_row(row.name, &time(&row, rounds as usize));
+        }
+    }
+    print_tapes_head();
+    for tape in tapes(seed) {
+        if tape.name.contains(&only) {
+            print_tape(tape.name, &replays::time(&tape, rounds as usize));
         }
     }
 }
@@ -38,7 +46,31 @@ fn print_row(name: &str, times: &Times) {
     for time in [times.proved, times.peer, times.own, times.empty] {
         print!("  {time:6.2}");
     }
-    for ratio in [&times.to_peer, &times.to_own] {
+    print_ratios([&times.to_peer, &times.to_own]);
+}
+
+fn print_tapes_head() {
+    println!();
+    println!("Recordings of 32,768 bytes replayed whole, in MB of recording a second; \"long\": 64 of them.");
+    println!("lent: the proved side writes into one output, lent for every call and never cleared.");
+    println!("alloc: it writes into a new output for each call, allocated like the peer's; none is cleared.");
+    println!("peer: it allocates its text for each call. Each allocation, and its end, is part of the time.");
+    println!("lent / peer and alloc / peer are ratios of times: median, least and greatest of the rounds.");
+    println!();
+    print!("{:34}    lent   alloc    peer", "");
+    println!("        lent / peer         alloc / peer");
+}
+
+fn print_tape(name: &str, speeds: &Speeds) {
+    print!("{name:34}");
+    for speed in [speeds.lent, speeds.allocated, speeds.peer] {
+        print!("  {speed:6.1}");
+    }
+    print_ratios([&speeds.lent_to_peer, &speeds.allocated_to_peer]);
+}
+
+fn print_ratios(ratios: [&Spread; 2]) {
+    for ratio in ratios {
         print!(
             "   {:5.2} ({:.2} to {:.2})",
             ratio.median, ratio.min, ratio.max

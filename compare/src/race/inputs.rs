@@ -62,7 +62,7 @@ fn list<T>(random: &mut Random, draw: impl Fn(&mut Random) -> T) -> Vec<T> {
 }
 
 /// Every page whole with one key, below the I/O page; D space for all.
-fn open(random: &mut Random, key: u16, sr0: u16) -> [u16; WORDS] {
+pub fn open(random: &mut Random, key: u16, sr0: u16) -> [u16; WORDS] {
     let mut store = [0; WORDS];
     for page in 0..PDR {
         store[page] = random.below(0o7000) as u16;
@@ -74,7 +74,7 @@ fn open(random: &mut Random, key: u16, sr0: u16) -> [u16; WORDS] {
 }
 
 /// Pages of every key and length.
-fn pages(random: &mut Random) -> [u16; WORDS] {
+pub fn pages(random: &mut Random) -> [u16; WORDS] {
     let mut store = [0; WORDS];
     for page in 0..PDR {
         store[page] = random.word() & 0o7777;
@@ -85,7 +85,7 @@ fn pages(random: &mut Random) -> [u16; WORDS] {
     store
 }
 
-fn valid(random: &mut Random) -> Reference {
+pub fn valid(random: &mut Random) -> Reference {
     Reference {
         mode: random.pick(&[0, 1, 3]),
         space: random.below(2),

@@ -1,6 +1,5 @@
 //! The sides of the race, each a table of the C functions of include/kt11c.h.
 //! They are called through pointers, so none is inlined into the timing loop.
-//! A replay of whole recordings would be one more function of the table.
 
 use std::convert::identity;
 use std::slice::{from_raw_parts, from_raw_parts_mut};

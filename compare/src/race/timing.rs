@@ -9,7 +9,7 @@ use crate::race::sides::{Side, EMPTY, OWN, PEER, PROVED};
 
 /// How often each side is timed in a round; the least time counts, as what else
 /// the machine does can only add to it.
-const TURNS: usize = 5;
+pub const TURNS: usize = 5;
 
 /// What the rounds of a row gave: nanoseconds an event, and the ratios of the
 /// proved side to the peer, and to the peer answering its own enum.
@@ -100,7 +100,7 @@ fn once<A: Copy>(row: &Row, side: &Side<A>, taken: impl Fn(A) -> u32 + Copy) -> 
     }
 }
 
-fn spread(mut numbers: Vec<f64>) -> Spread {
+pub fn spread(mut numbers: Vec<f64>) -> Spread {
     numbers.sort_by(f64::total_cmp);
     Spread {
         min: numbers[0],
