@@ -11,7 +11,7 @@ use Rattle.widening.specs.Runs.{calm}
 use Rattle.auditing.specs.Verdicts.{verdictOf}
 use Rattle.auditing.specs.declared.Verdict.{Verdict}
 use Rattle.auditing.specs.declared.Verdict.the-variants.{Permitted, Breaks, Refused as Unjudged}
-use Rattle.reach.specs.Parting.{partingOf}
+use Rattle.meetings.specs.Parting.{partingOf}
 use Rattle.account.specs.declared.Kept.{Kept}
 use Rattle.account.specs.declared.Kept.the-variants.{From, Never}
 use Rattle.account.specs.declared.Broken.{Broken}

@@ -9,7 +9,7 @@ ghost use Rattle.account.specs.Reports.{courseOf, auditOf};
 ghost use Rattle.account.specs.Turns.{fresh as freshOf, orFresh, keptAfter, brokenAfter};
 use auditing::Reason;
 use auditing::Verdict;
-use reach::Parting;
+use meetings::Parting;
 use records::Cursor;
 use records::Found;
 use rules::Refusal;
@@ -145,6 +145,6 @@ pub fn audit(s: &mut [u16], recording: &[u8]) -> Audited
         return Audited::Refused(Refusal::Long);
     }
     let course = survey(s, recording);
-    let map = reach::apart(s);
+    let map = meetings::apart(s);
     Audited::Done(Report { course, map })
 }

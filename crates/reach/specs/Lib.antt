@@ -1,4 +1,1 @@
-pub mod Firsts
 pub mod Reaching
-pub mod Parting
-pub mod Pass

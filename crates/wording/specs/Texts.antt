@@ -9,9 +9,9 @@ use Rattle.rules.specs.declared.Refusal.{Refusal}
 use Rattle.lines.specs.Digits.{digit, decimal, octal}
 use Rattle.auditing.specs.declared.Reason.{Reason}
 use Rattle.auditing.specs.declared.Reason.the-variants.{Init, WritesSr3, RelocationOff, ChangesPar, ChangesEd, Narrows, LosesRights}
-use Rattle.reach.specs.declared.Meeting.{Meeting}
-use Rattle.reach.specs.declared.Parting.{Parting}
-use Rattle.reach.specs.declared.Parting.the-variants.{Apart, Shared, Refused as Unmapped}
+use Rattle.meetings.specs.declared.Meeting.{Meeting}
+use Rattle.meetings.specs.declared.Parting.{Parting}
+use Rattle.meetings.specs.declared.Parting.the-variants.{Apart, Shared, Refused as Unmapped}
 use Rattle.account.specs.declared.Kept.{Kept}
 use Rattle.account.specs.declared.Kept.the-variants.{From, Never}
 use Rattle.account.specs.declared.Broken.{Broken}

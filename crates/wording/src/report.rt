@@ -10,8 +10,8 @@ use account::Audited;
 use account::Broken;
 use account::Ending;
 use account::Kept;
-use reach::Meeting;
-use reach::Parting;
+use meetings::Meeting;
+use meetings::Parting;
 
 fn put_end(out: &mut [u8], at: usize, ending: Ending, end: usize) -> usize
     requires { ⌜ at + 80 ≤ length (now out) ⌝ }

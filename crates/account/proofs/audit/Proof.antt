@@ -4,7 +4,7 @@ use mathlib.Core.List.{List}
 use Prim.Native.Nat.{ℕ}
 use borrow.Author.Needs.{needs}
 use borrow.Author.Tests.{lt-ltb, le-ltb, eq-eqb, ne-eqb}
-use Rattle.reach.specs.Parting.{partingOf}
+use Rattle.meetings.specs.Parting.{partingOf}
 use Rattle.account.specs.declared.Course.{Course}
 use Rattle.account.specs.declared.Audited.{Audited}
 use Rattle.account.specs.declared.Audited.the-variants.{Done}
