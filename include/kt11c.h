@@ -1,4 +1,5 @@
-/* kt11c.h: the KT11-C memory management unit as a static library (libboard.a).
+/* kt11c.h: the KT11-C memory management unit as a static library (libboard.a), and the replay of a recording
+ * as another (libtape.a).
  *
  * The unit keeps no state of its own. The caller lends its registers, 100 words of 16 bits:
  *     0 to 47   page address registers (PAR): Kernel I 0 to 7, Kernel D, Supervisor I, D, User I, D
@@ -9,7 +10,7 @@
  * that nothing else reads or writes during the call. Everything else is judged: any numbers, and a count
  * other than 100, get an answer.
  *
- * Every call answers one number. Its top four bits say what it is:
+ * Every call but kt11c_replay, at the end, answers one number. Its top four bits say what it is:
  *     1  granted   bits 17:0 are the byte; bit 24 is set if the reference traps
  *     2  aborted   bit 2 non-resident, bit 1 length, bit 0 read-only
  *     3  a word    bits 15:0
@@ -73,6 +74,22 @@ uint32_t kt11c_change(uint16_t *store, size_t words, uint32_t general_register, 
 
 /* INIT: SR0 to SR3 become 0; PAR and PDR stay. Done, or refused by 1. */
 uint32_t kt11c_init(uint16_t *store, size_t words);
+
+/* Recordings (libtape.a).
+ *
+ * A recording is replayed from the record at place `at` on, 0 for the first: each event happens on the store, and
+ * its line goes to `out`, while the next line fits what is left of `room`. Where it does not, neither does its event
+ * happen. Answers how many bytes of `out` were written; the bytes beyond them stay.
+ *
+ * With a room of KT11C_TRANSCRIPT bytes one call from place 0 writes the whole transcript of any recording: the
+ * longest is that of 8,191 register reads, three INITs and an unknown kind, 8,191 * 9 + 3 * 2 + 5 bytes. Where the
+ * store isn't 100 words, or the recording has over 32,768 bytes, it is one line, refusal 1 or 13.
+ *
+ * The caller owes the same as above for `recording` (which is only read) and for `out`; the three don't overlap. */
+#define KT11C_TRANSCRIPT 73730u
+
+size_t kt11c_replay(uint16_t *store, size_t words, const uint8_t *recording, size_t bytes, size_t at,
+                    uint8_t *out, size_t room);
 
 #ifdef __cplusplus
 }

@@ -52,7 +52,9 @@ fn print_row(name: &str, times: &Times) {
 fn print_tapes_head() {
     println!();
     println!("Recordings of 32,768 bytes replayed whole, in MB of recording a second; \"long\": 64 of them.");
-    println!("lent: the proved side writes into one output, lent for every call and never cleared.");
+    println!(
+        "lent: the proved side writes into one output, lent for every call and never cleared."
+    );
     println!("alloc: it writes into a new output for each call, allocated like the peer's; none is cleared.");
     println!("peer: it allocates its text for each call. Each allocation, and its end, is part of the time.");
     println!("lent / peer and alloc / peer are ratios of times: median, least and greatest of the rounds.");

@@ -30,28 +30,42 @@ pub fn tapes(seed: u64) -> Vec<Tape> {
     let any = pages(random);
     vec![
         tape(random, "records of every kind", any, 1, draw::event),
-        tape(random, "records of every kind, long", any, LONG, draw::event),
+        tape(
+            random,
+            "records of every kind, long",
+            any,
+            LONG,
+            draw::event,
+        ),
         tape(random, "references granted", granted, 1, |random, _| {
             valid(random).event()
         }),
-        tape(random, "references granted, long", granted, LONG, |random, _| {
-            valid(random).event()
-        }),
+        tape(
+            random,
+            "references granted, long",
+            granted,
+            LONG,
+            |random, _| valid(random).event(),
+        ),
         tape(random, "references, mixed", any, 1, |random, _| {
             valid(random).event()
         }),
         tape(random, "register reads", any, 1, |random, _| Event::Read {
             address: register(random),
         }),
-        tape(random, "register writes", any, 1, |random, _| Event::Write {
-            address: register(random),
-            value: random.word(),
+        tape(random, "register writes", any, 1, |random, _| {
+            Event::Write {
+                address: register(random),
+                value: random.word(),
+            }
         }),
         tape(random, "instruction starts", any, 1, |random, _| {
             Event::Instruction { va: random.word() }
         }),
         tape(random, "INITs", any, 1, |_, _| Event::Init),
-        tape(random, "refused events", any, 1, |random, _| refused(random)),
+        tape(random, "refused events", any, 1, |random, _| {
+            refused(random)
+        }),
     ]
 }
 

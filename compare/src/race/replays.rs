@@ -60,7 +60,8 @@ fn round(tape: &Tape, out: &mut Vec<u8>) -> Round {
             black_box(&text).len()
         });
         let peer = once(tape, |store, recording| {
-            let text = black_box(peer::replay as fn(&mut [u16], &[u8]) -> Vec<u8>)(store, recording);
+            let text =
+                black_box(peer::replay as fn(&mut [u16], &[u8]) -> Vec<u8>)(store, recording);
             black_box(&text).len()
         });
         for other in [&allocated, &peer] {

@@ -10,9 +10,6 @@ ghost use Rattle.records.specs.Bytes.{lowFirst, signed};
 ghost use Rattle.records.specs.Kinds.{bodyOf};
 ghost use Rattle.records.specs.Records.{referenceAt, changeAt, eventOf, recordAt};
 
-// The length of a record's body, from kind 1 on.
-const BODIES: [u8; 7] = [6, 3, 5, 2, 2, 2, 0];
-
 // A place in a recording.
 pub struct Cursor {
     pub at: usize,
@@ -118,12 +115,27 @@ fn event_at(kind: u8, s: &[u8], at: usize) -> Event
 }
 
 // the length of a known kind's body
+fn length_of(kind: u8) -> u8
+    requires { ⌜ (0 < kind) × (kind ≤ 7) ⌝ }
+    ensures { λ r. ⌜ r ≡ bodyOf kind ⌝ }
+{
+    match kind {
+        1 => 6,
+        2 => 3,
+        3 => 5,
+        4 => 2,
+        5 => 2,
+        6 => 2,
+        _ => 0,
+    }
+}
+
+// the same, as a count of bytes
 fn body_of(kind: u8) -> usize
     requires { ⌜ (0 < kind) × (kind ≤ 7) ⌝ }
     ensures { λ r. ⌜ (r ≡ bodyOf kind) × (r < 256) ⌝ }
 {
-    let index = (kind - 1) as usize;
-    wide(BODIES[index])
+    wide(length_of(kind))
 }
 
 impl Cursor {
