@@ -11,9 +11,9 @@ use transcript::Stepped;
 ghost use mathlib.Core.Path.{_≡_};
 ghost use Prim.Native.Nat.{_≤_};
 ghost use lib.ListN.{length};
-ghost use lib.Dec.{leb};
+ghost use lib.Dec.{ltb, eqb};
+ghost use mathlib.Core.Bool.{cond};
 ghost use Rattle.rules.specs.Paper.{X, number};
-ghost use Rattle.rules.specs.Step.{step};
 ghost use Rattle.lines.specs.Lines.{lineOf};
 ghost use Rattle.transcript.specs.Steps.{shown, replayed};
 ghost use Rattle.recording.specs.Parts.{taken, ended, ahead};
@@ -22,51 +22,48 @@ const WORDS: usize = 100;
 
 const LIMIT: usize = 32768;
 
-fn copy_of(s: &[u16]) -> [u16; 100]
-    requires { ⌜ length (now s) ≡ 100 ⌝ }
-    ensures { λ r. ⌜ r ≡ now (s .entry) ⌝ }
+// the words of a store, into another
+fn copy(from: &[u16], to: &mut [u16])
+    requires { ⌜ (length (now from) ≡ 100) × (length (now to) ≡ 100) ⌝ }
+    ensures { λ r. ⌜ now (to .exit) ≡ now (from .entry) ⌝ }
 {
-    let mut copy = [0u16; 100];
     let mut i = 0;
     while i < 100 {
-        copy[i] = s[i];
+        to[i] = from[i];
         i += 1;
     }
-    copy
 }
 
-// whether the line of an event's answer fits, tried on a copy of the store
-fn fits_tried(s: &[u16], e: Event, room: usize) -> bool
-    requires { ⌜ length (now s) ≡ 100 ⌝ }
-    ensures { λ r. ⌜ r ≡ leb (length (lineOf (step (now (s .entry)) e .0))) room ⌝ }
+// the store is kept aside where there is not room for any line
+fn keep(s: &[u16], spare: &mut [u16], room: usize)
+    requires { ⌜ (length (now s) ≡ 100) × (length (now spare) ≡ 100) ⌝ }
+    ensures { λ r. ⌜ now (spare .exit) ≡ cond (ltb room 11) (now (s .entry)) (now (spare .entry)) ⌝ }
 {
-    let mut copy = copy_of(s);
-    let answer = kt11c::apply(&mut copy, e);
-    lines::length_of(answer) <= room
-}
-
-// whether the line of an event's answer fits: any line does, or this one
-fn fits(s: &[u16], e: Event, room: usize) -> bool
-    requires { ⌜ length (now s) ≡ 100 ⌝ }
-    ensures { λ r. ⌜ r ≡ leb (length (lineOf (step (now (s .entry)) e .0))) room ⌝ }
-{
-    if LONGEST <= room {
-        return true;
+    if room < LONGEST {
+        copy(s, spare);
     }
-    fits_tried(s, e, room)
+}
+
+// and given back where nothing was written
+fn give_back(s: &mut [u16], spare: &[u16], written: usize)
+    requires { ⌜ (length (now s) ≡ 100) × (length (now spare) ≡ 100) ⌝ }
+    ensures { λ r. ⌜ now (s .exit) ≡ cond (eqb written 0) (now (spare .entry)) (now (s .entry)) ⌝ }
+{
+    if written == 0 {
+        copy(spare, s);
+    }
 }
 
 // an event and its line, where the line fits: how many bytes were written, 0 where it does not fit and nothing happens
-fn take_event(s: &mut [u16], e: Event, out: &mut [u8], written: usize) -> usize
-    requires { ⌜ (length (now s) ≡ 100) × (written ≤ length (now out)) ⌝ }
+fn take_event(s: &mut [u16], e: Event, out: &mut [u8], written: usize, spare: &mut [u16]) -> usize
+    requires { ⌜ (length (now s) ≡ 100) × ((length (now spare) ≡ 100) × (written ≤ length (now out))) ⌝ }
     ensures { λ n. ⌜ (n, now (s .exit), now (out .exit)) ≡ taken (now (s .entry)) e (now (out .entry)) written ⌝ }
 {
-    if fits(s, e, out.len() - written) {
-        let answer = kt11c::apply(s, e);
-        lines::put(out, written, answer)
-    } else {
-        0
-    }
+    keep(s, spare, out.len() - written);
+    let answer = kt11c::apply(s, e);
+    let n = lines::put(out, written, answer);
+    give_back(s, spare, n);
+    n
 }
 
 // a refusal that stops the replay: its line, where it fits
@@ -86,6 +83,7 @@ fn replay_records(s: &mut [u16], recording: &[u8], start: usize, out: &mut [u8])
     requires { ⌜ length (now s) ≡ 100 ⌝ }
     ensures { λ r. ⌜ (r, now (s .exit), now (out .exit)) ≡ shown (ahead (now (recording .entry)) start (now (s .entry)) (length (now (out .entry)))) (now (out .entry)) ⌝ }
 {
+    let mut spare = [0u16; 100];
     let mut at = start;
     let mut written = 0;
     loop {
@@ -102,7 +100,7 @@ fn replay_records(s: &mut [u16], recording: &[u8], start: usize, out: &mut [u8])
                 return stop(out, at, written, refusal);
             }
             Found::Whole(event, next) => {
-                let n = take_event(s, event, out, written);
+                let n = take_event(s, event, out, written, &mut spare);
                 if n == 0 {
                     return Stepped {
                         place: Place { at, over: false },

@@ -1,5 +1,5 @@
 -- The loop keeps to the stretch that the step will show: `Reached` holds at each record, and the place moves on.
-use mathlib.Core.Path.{_≡_, sym, _∙_}
+use mathlib.Core.Path.{_≡_, refl, sym, _∙_}
 use Prim.Native.Nat.{_-_}
 use native.Mathlib.Omega.{arith}
 use lib.ListN.{length}
@@ -12,76 +12,78 @@ use Rattle.recording.proofs.replay_records.Statement.{statement}
 use Rattle.recording.proofs.replay_records.Tie as tie
 
 abbrev Inv-loop : tie.InvT-loop
-Inv-loop s₀ recording start out₀ at₀ written₀ s out at written =
-    (length s ≡ 100) × Reached (ahead recording start s₀ (length out₀)) out₀ out written (ahead recording at s (length out - written))
+Inv-loop s₀ recording start out₀ spare₀ at₀ written₀ s out spare at written =
+    (length s ≡ 100) × ((length spare ≡ 100) × Reached (ahead recording start s₀ (length out₀)) out₀ out written (ahead recording at s (length out - written)))
 
 abbrev μ-loop : tie.MeasureT-loop
-μ-loop s₀ recording start out₀ at₀ written₀ s out at written = length recording - at
+μ-loop s₀ recording start out₀ spare₀ at₀ written₀ s out spare at written = length recording - at
 
 loop-holds : tie.Need-loop-holds Inv-loop μ-loop
 loop-holds c =
     let a = c .before .before .before .args in
-    (c .before .before .before .pre, begins (a .recording .now) (a .start) (a .s .now) (a .out .now))
+    (c .before .before .before .pre, (refl, begins (a .recording .now) (a .start) (a .s .now) (a .out .now)))
 
 same-length : tie.Need-same-length Inv-loop μ-loop
 same-length c = c .before .before .before .loop .inv .0 ∙ sym (c .before .before .before .before .before .before .before .pre)
 
 same-length-2 : tie.Need-same-length-2 Inv-loop μ-loop
-same-length-2 c = c .before .before .before .loop .inv .1 .size
+same-length-2 c = c .before .before .before .loop .inv .1 .1 .size
 
 returns : tie.Need-returns Inv-loop μ-loop
 returns c =
     let loop = c .before .before .before .loop in
-    ends _ _ _ _ _ _ _ (sym (c .before .before .read .ensures) ∙ c .enum-told .given .1) (loop .inv .1)
+    ends _ _ _ _ _ _ _ (sym (c .before .before .read .ensures) ∙ c .enum-told .given .1) (loop .inv .1 .1)
 
 stop-requires : tie.Need-stop-requires Inv-loop μ-loop
-stop-requires c κs = c .before .before .before .before .before .loop .inv .1 .within
+stop-requires c κs = c .before .before .before .before .before .loop .inv .1 .1 .within
 
 same-length-3 : tie.Need-same-length-3 Inv-loop μ-loop
 same-length-3 c = c .before .before .before .before .before .before .before .before .loop .inv .0 ∙ sym (c .before .before .before .before .before .before .before .before .before .before .before .before .pre)
 
 same-length-4 : tie.Need-same-length-4 Inv-loop μ-loop
-same-length-4 c = c .before .before .stop .kept .0 ∙ c .before .before .before .before .before .before .before .before .loop .inv .1 .size
+same-length-4 c = c .before .before .stop .kept .0 ∙ c .before .before .before .before .before .before .before .before .loop .inv .1 .1 .size
 
 returns-2 : tie.Need-returns-2 Inv-loop μ-loop
 returns-2 c =
     let loop = c .before .before .before .before .before .before .before .before .loop in
     let found = sym (c .before .before .before .before .before .before .before .read .ensures) ∙ c .before .before .before .before .before .found .given .1 in
-    refused _ _ _ _ _ _ _ _ found (loop .inv .1) _ _ (c .before .before .stop .ensures)
+    refused _ _ _ _ _ _ _ _ found (loop .inv .1 .1) _ _ (c .before .before .stop .ensures)
 
 take-event-requires : tie.Need-take-event-requires Inv-loop μ-loop
-take-event-requires c κs = (c .before .before .before .before .before .before .loop .inv .0, c .before .before .before .before .before .before .loop .inv .1 .within)
+take-event-requires c κs =
+    let loop = c .before .before .before .before .before .before .before .loop in
+    (loop .inv .0, (loop .inv .1 .0, loop .inv .1 .1 .within))
 
 same-length-5 : tie.Need-same-length-5 Inv-loop μ-loop
-same-length-5 c = c .before .before .before .before .before .take-event .kept .0 ∙ c .before .before .before .before .before .before .before .before .before .before .before .before .loop .inv .0 ∙ sym (c .before .before .before .before .before .before .before .before .before .before .before .before .before .before .before .before .pre)
+same-length-5 c = c .before .before .before .before .before .before .take-event .kept .0 ∙ c .before .before .before .before .before .before .before .before .before .before .before .before .before .before .loop .inv .0 ∙ sym (c .before .before .before .before .before .before .before .before .before .before .before .before .before .before .before .before .before .before .pre)
 
 same-length-6 : tie.Need-same-length-6 Inv-loop μ-loop
-same-length-6 c = c .before .before .before .before .before .take-event .kept .1 .1 .0 ∙ c .before .before .before .before .before .before .before .before .before .before .before .before .loop .inv .1 .size
+same-length-6 c = c .before .before .before .before .before .before .take-event .kept .1 .1 .0 ∙ c .before .before .before .before .before .before .before .before .before .before .before .before .before .before .loop .inv .1 .1 .size
 
 returns-3 : tie.Need-returns-3 Inv-loop μ-loop
 returns-3 c =
-    let loop = c .before .before .before .before .before .before .before .before .before .before .before .before .loop in
-    let found = sym (c .before .before .before .before .before .before .before .before .before .before .before .read .ensures) ∙ c .before .before .before .before .before .before .before .before .before .found2 .given .1 in
-    leaves _ _ _ _ _ _ _ _ _ found (loop .inv .1) _ _ _ (c .before .before .before .before .before .take-event .ensures) (c .if1 .taken)
+    let loop = c .before .before .before .before .before .before .before .before .before .before .before .before .before .before .loop in
+    let found = sym (c .before .before .before .before .before .before .before .before .before .before .before .before .before .read .ensures) ∙ c .before .before .before .before .before .before .before .before .before .before .before .found2 .given .1 in
+    leaves _ _ _ _ _ _ _ _ _ found (loop .inv .1 .1) _ _ _ (c .before .before .before .before .before .before .take-event .ensures) (c .if1 .taken)
 
 add-written : tie.Need-add-written Inv-loop μ-loop
 add-written c =
-    let loop = c .before .before .before .before .before .before .before .before .before .before .before .before .loop in
-    let found = sym (c .before .before .before .before .before .before .before .before .before .before .before .read .ensures) ∙ c .before .before .before .before .before .before .before .before .before .found2 .given .1 in
-    let next = takes _ _ _ _ _ _ _ _ _ found (loop .inv .1) _ _ _ (c .before .before .before .before .before .take-event .ensures) (c .if1 .left) in
+    let loop = c .before .before .before .before .before .before .before .before .before .before .before .before .before .before .loop in
+    let found = sym (c .before .before .before .before .before .before .before .before .before .before .before .before .before .read .ensures) ∙ c .before .before .before .before .before .before .before .before .before .before .before .found2 .given .1 in
+    let next = takes _ _ _ _ _ _ _ _ _ found (loop .inv .1 .1) _ _ _ (c .before .before .before .before .before .before .take-event .ensures) (c .if1 .left) in
     omega (arith, next .within, next .size)
 
 loop-less : tie.Need-loop-less Inv-loop μ-loop
 loop-less c =
-    let found = sym (c .before .before .before .before .before .before .before .before .before .before .before .read .ensures) ∙ c .before .before .before .before .before .before .before .before .before .found2 .given .1 in
+    let found = sym (c .before .before .before .before .before .before .before .before .before .before .before .before .before .read .ensures) ∙ c .before .before .before .before .before .before .before .before .before .before .before .found2 .given .1 in
     omega (arith, advances _ _ _ _ found)
 
 loop-again : tie.Need-loop-again Inv-loop μ-loop
 loop-again c =
-    let loop = c .before .before .before .before .before .before .before .before .before .before .before .before .loop in
-    let found = sym (c .before .before .before .before .before .before .before .before .before .before .before .read .ensures) ∙ c .before .before .before .before .before .before .before .before .before .found2 .given .1 in (
-      c .before .before .before .before .before .take-event .kept .0 ∙ loop .inv .0,
-      takes _ _ _ _ _ _ _ _ _ found (loop .inv .1) _ _ _ (c .before .before .before .before .before .take-event .ensures) (c .if1 .left),
+    let loop = c .before .before .before .before .before .before .before .before .before .before .before .before .before .before .loop in
+    let found = sym (c .before .before .before .before .before .before .before .before .before .before .before .before .before .read .ensures) ∙ c .before .before .before .before .before .before .before .before .before .before .before .found2 .given .1 in (
+      c .before .before .before .before .before .before .take-event .kept .0 ∙ loop .inv .0,
+      (search needs, takes _ _ _ _ _ _ _ _ _ found (loop .inv .1 .1) _ _ _ (c .before .before .before .before .before .before .take-event .ensures) (c .if1 .left)),
     )
 
 pub replay-records-spec : {M : Type 1} → statement M
@@ -101,6 +103,7 @@ replay-records-spec =
     same-length-3
     same-length-4
     returns-2
+    (λ c. search needs)
     (λ c. search needs)
     take-event-requires
     same-length-5

@@ -6,18 +6,18 @@ use native.Mathlib.Numerals.{add-one}
 use native.Mathlib.Omega.{arith}
 use lib.ListN.{length, take, getD, set, length-set}
 use lib.Seq.{take-suc, take-suc-set, take-all}
-use Rattle.recording.proofs.copy_of.Statement.{statement}
-use Rattle.recording.proofs.copy_of.Tie as tie
+use Rattle.recording.proofs.copy.Statement.{statement}
+use Rattle.recording.proofs.copy.Tie as tie
 
-copied : (s copy : List ℕ) (i : ℕ) → i < length copy → i < length s → take i copy ≡ take i s
-    → take (i + 1) (set copy i (getD s i 0)) ≡ take (i + 1) s
-copied s copy i h k e = rw (add-one, take-suc-set copy i (getD s i 0) h, take-suc s i 0 k, e)
+copied : (s t : List ℕ) (i : ℕ) → i < length t → i < length s → take i t ≡ take i s
+    → take (i + 1) (set t i (getD s i 0)) ≡ take (i + 1) s
+copied s t i h k e = rw (add-one, take-suc-set t i (getD s i 0) h, take-suc s i 0 k, e)
 
 abbrev Inv-loop : tie.InvT-loop
-Inv-loop s copy₀ i₀ copy i = (i ≤ 100) × ((length copy ≡ 100) × (take i copy ≡ take i s))
+Inv-loop from to₀ i₀ to i = (i ≤ 100) × ((length to ≡ 100) × (take i to ≡ take i from))
 
 abbrev μ-loop : tie.MeasureT-loop
-μ-loop s copy₀ i₀ copy i = 100 - i
+μ-loop from to₀ i₀ to i = 100 - i
 
 loop-again : tie.Need-loop-again Inv-loop μ-loop
 loop-again c =
@@ -36,13 +36,13 @@ returns c =
     let i = c .before .loop .i in
     sym (take-all i _ (omega (arith, inv .1 .0))) ∙ inv .1 .1 ∙ take-all i _ (omega (arith, c .before .before .pre))
 
-pub copy-of-spec : {M : Type 1} → statement M
-copy-of-spec =
+pub copy-spec : {M : Type 1} → statement M
+copy-spec =
     tie.close
     (tie.spec
     Inv-loop
     μ-loop
-    (λ c. (omega arith, (refl, refl)))
+    (λ c. (omega arith, (c .pre .1, refl)))
     (λ c. omega arith)
     (λ c. omega arith)
     (λ c. omega arith)
@@ -50,4 +50,5 @@ copy-of-spec =
     (λ c. omega arith)
     (λ c. omega arith)
     loop-again
+    (λ c. c .before .loop .inv .1 .0 ∙ sym (c .before .before .pre .1))
     returns)
