@@ -10,3 +10,4 @@ pub mod Owned
 pub mod Example
 pub mod Premises
 pub mod Needed
+pub mod Applied

@@ -6,3 +6,4 @@ pub mod LastMap
 pub mod Example
 pub mod Premises
 pub mod Needed
+pub mod Applied
