@@ -3,34 +3,12 @@
 
 ghost use mathlib.Core.Path.{_≡_};
 ghost use lib.IntN.{pos, negsuc};
-ghost use Rattle.rules.specs.Paper.{paper, number as numberOf};
+ghost use Rattle.rules.specs.Paper.{paper};
 ghost use Rattle.rules.specs.Step.{step};
 ghost use Rattle.rules.specs.declared.Event.the-variants.{Refer, Read, Write, Instruction, Interrupt, Change, Init};
 ghost use Rattle.board.specs.Codes.{Small, codeOf, coded, referenceOf};
 use rules::Answer;
 use rules::Reference;
-use rules::Refusal;
-
-// A refusal's number in 01.
-fn number(r: Refusal) -> u32
-    ensures { λ n. ⌜ n ≡ numberOf r ⌝ }
-{
-    match r {
-        Refusal::Store => 1,
-        Refusal::Mode => 2,
-        Refusal::Space => 3,
-        Refusal::Access => 4,
-        Refusal::Phase => 5,
-        Refusal::High => 6,
-        Refusal::Odd => 7,
-        Refusal::NoRegister => 8,
-        Refusal::BadChange => 9,
-        Refusal::Full => 10,
-        Refusal::Kind => 11,
-        Refusal::Cut => 12,
-        Refusal::Long => 13,
-    }
-}
 
 // An answer as one number.
 fn code(a: Answer) -> u32
@@ -51,7 +29,7 @@ fn code(a: Answer) -> u32
         }
         Answer::Word(w) => 0x30000000 + w as u32,
         Answer::Done => 0x40000000,
-        Answer::Refused(r) => 0x50000000 + number(r),
+        Answer::Refused(r) => 0x50000000 + rules::number(r),
     }
 }
 

@@ -1,13 +1,12 @@
 // An answer's line (01, "Recordings"), written straight into the lent output.
 
 use rules::Answer;
-use rules::Refusal;
 ghost use mathlib.Core.Path.{_≡_};
 ghost use mathlib.Core.Bool.{cond};
 ghost use Prim.Native.Nat.{_+_, _%_, _≤_, _<_};
 ghost use lib.ListN.{length};
 ghost use lib.Seq.{sets};
-ghost use Rattle.rules.specs.Paper.{paper, number, G, A as Abort, R, D, X};
+ghost use Rattle.rules.specs.Paper.{paper, G, A as Abort, R, D, X};
 ghost use Rattle.rules.specs.Words.{bit};
 ghost use Rattle.lines.specs.Digits.{digit, octal};
 ghost use Rattle.lines.specs.Lines.{lineOf, placed};
@@ -110,26 +109,6 @@ fn put_refused(out: &mut [u8], at: usize, n: u32)
     out[at + 4] = FEED;
 }
 
-fn number_of(r: Refusal) -> u32
-    ensures { λ n. ⌜ n ≡ number r ⌝ }
-{
-    match r {
-        Refusal::Store => 1,
-        Refusal::Mode => 2,
-        Refusal::Space => 3,
-        Refusal::Access => 4,
-        Refusal::Phase => 5,
-        Refusal::High => 6,
-        Refusal::Odd => 7,
-        Refusal::NoRegister => 8,
-        Refusal::BadChange => 9,
-        Refusal::Full => 10,
-        Refusal::Kind => 11,
-        Refusal::Cut => 12,
-        Refusal::Long => 13,
-    }
-}
-
 // The length of the longest line.
 pub const LONGEST: usize = 11;
 
@@ -163,7 +142,7 @@ fn put_fitting(out: &mut [u8], at: usize, a: Answer)
         } => put_aborted(out, at, nonresident, length, readonly),
         Answer::Word(word) => put_word(out, at, word),
         Answer::Done => put_done(out, at),
-        Answer::Refused(refusal) => put_refused(out, at, number_of(refusal)),
+        Answer::Refused(refusal) => put_refused(out, at, rules::number(refusal)),
     }
 }
 

@@ -1,5 +1,8 @@
 // The types of document 01. What they mean is in specs/.
 
+ghost use mathlib.Core.Path.{_≡_};
+ghost use Rattle.rules.specs.Paper.{number as numberOf};
+
 // A reference (01, "A reference"). The numbers are as the caller gives them; rules and refusals judge them.
 pub struct Reference {
     pub mode: u32,
@@ -35,6 +38,27 @@ pub enum Refusal {
     Kind,
     Cut,
     Long,
+}
+
+// A refusal's number in 01.
+pub fn number(r: Refusal) -> u32
+    ensures { λ n. ⌜ n ≡ numberOf r ⌝ }
+{
+    match r {
+        Refusal::Store => 1,
+        Refusal::Mode => 2,
+        Refusal::Space => 3,
+        Refusal::Access => 4,
+        Refusal::Phase => 5,
+        Refusal::High => 6,
+        Refusal::Odd => 7,
+        Refusal::NoRegister => 8,
+        Refusal::BadChange => 9,
+        Refusal::Full => 10,
+        Refusal::Kind => 11,
+        Refusal::Cut => 12,
+        Refusal::Long => 13,
+    }
 }
 
 // What the unit answers.

@@ -11,7 +11,7 @@ ghost use Rattle.wording.specs.Texts.{reasonText, modeText, setText, pag
 use auditing::Reason;
 use rules::Refusal;
 
-pub fn put(out: &mut [u8], at: usize, text: &[u8]) -> usize
+pub(crate) fn put(out: &mut [u8], at: usize, text: &[u8]) -> usize
     requires { ⌜ at + length (now text) ≤ length (now out) ⌝ }
     ensures { λ n. ⌜ Wrote (now (out .entry)) at (now (text .entry)) n (now (out .exit)) ⌝ }
 {
@@ -44,7 +44,7 @@ fn eights(n: usize) -> u8
 }
 
 // a byte's offset: five decimal digits
-pub fn put_offset(out: &mut [u8], at: usize, n: usize) -> usize
+pub(crate) fn put_offset(out: &mut [u8], at: usize, n: usize) -> usize
     requires { ⌜ at + 5 ≤ length (now out) ⌝ }
     ensures { λ r. ⌜ Wrote (now (out .entry)) at (decimal 5 n) r (now (out .exit)) ⌝ }
 {
@@ -59,7 +59,7 @@ pub fn put_offset(out: &mut [u8], at: usize, n: usize) -> usize
 }
 
 // a block: four octal digits
-pub fn put_block(out: &mut [u8], at: usize, n: usize) -> usize
+pub(crate) fn put_block(out: &mut [u8], at: usize, n: usize) -> usize
     requires { ⌜ at + 4 ≤ length (now out) ⌝ }
     ensures { λ r. ⌜ Wrote (now (out .entry)) at (octal 4 n) r (now (out .exit)) ⌝ }
 {
@@ -71,37 +71,17 @@ pub fn put_block(out: &mut [u8], at: usize, n: usize) -> usize
     put_char(out, c, eights(n))
 }
 
-fn number_of(r: Refusal) -> usize
-    ensures { λ n. ⌜ n ≡ number r ⌝ }
-{
-    match r {
-        Refusal::Store => 1,
-        Refusal::Mode => 2,
-        Refusal::Space => 3,
-        Refusal::Access => 4,
-        Refusal::Phase => 5,
-        Refusal::High => 6,
-        Refusal::Odd => 7,
-        Refusal::NoRegister => 8,
-        Refusal::BadChange => 9,
-        Refusal::Full => 10,
-        Refusal::Kind => 11,
-        Refusal::Cut => 12,
-        Refusal::Long => 13,
-    }
-}
-
 // a refusal's number: two decimal digits
-pub fn put_number(out: &mut [u8], at: usize, refusal: Refusal) -> usize
+pub(crate) fn put_number(out: &mut [u8], at: usize, refusal: Refusal) -> usize
     requires { ⌜ at + 2 ≤ length (now out) ⌝ }
     ensures { λ r. ⌜ Wrote (now (out .entry)) at (decimal 2 (number refusal)) r (now (out .exit)) ⌝ }
 {
-    let n = number_of(refusal);
+    let n = rules::number(refusal) as usize;
     let a = put_char(out, at, tens(n / 10));
     put_char(out, a, tens(n))
 }
 
-pub fn put_reason(out: &mut [u8], at: usize, reason: Reason) -> usize
+pub(crate) fn put_reason(out: &mut [u8], at: usize, reason: Reason) -> usize
     requires { ⌜ at + 40 ≤ length (now out) ⌝ }
     ensures { λ r. ⌜ Wrote (now (out .entry)) at (reasonText reason) r (now (out .exit)) × (r ≤ at + 40) ⌝ }
 {
@@ -140,7 +120,7 @@ fn put_set(out: &mut [u8], at: usize, set: u8) -> usize
 }
 
 // a page by its place among the 48: mode, set and number
-pub fn put_page(out: &mut [u8], at: usize, page: u8) -> usize
+pub(crate) fn put_page(out: &mut [u8], at: usize, page: u8) -> usize
     requires { ⌜ at + 14 ≤ length (now out) ⌝ }
     ensures { λ r. ⌜ Wrote (now (out .entry)) at (pageText page) r (now (out .exit)) × (r ≤ at + 14) ⌝ }
 {

@@ -91,7 +91,7 @@ fn put_map(out: &mut [u8], at: usize, map: Parting) -> usize
     }
 }
 
-pub fn put_audited(out: &mut [u8], a: Audited) -> usize
+pub(crate) fn put_audited(out: &mut [u8], a: Audited) -> usize
     requires { ⌜ 320 ≤ length (now out) ⌝ }
     ensures { λ r. ⌜ Wrote (now (out .entry)) 0 (textOf a) r (now (out .exit)) × (r ≤ 320) ⌝ }
 {

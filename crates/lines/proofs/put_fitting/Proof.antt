@@ -37,7 +37,7 @@ returns-4 : tie.Need-returns-4
 returns-4 c = rw (c .before .before .before .before .enum-told .given .1) (c .before .before .put-done .ensures)
 
 returns-5 : tie.Need-returns-5
-returns-5 c = rw (c .before .before .before .before .before .before .a4 .given .1, ← c .before .before .before .number-of .ensures) (c .before .before .put-refused .ensures)
+returns-5 c = rw (c .before .before .before .before .before .before .a4 .given .1, ← c .before .before .before .number .ensures) (c .before .before .put-refused .ensures)
 
 pub put-fitting-spec : {M : Type 1} → statement M
 put-fitting-spec =

@@ -6,7 +6,7 @@ use Rattle.wording.proofs.parts.put_number.Tie as tie
 
 returns : tie.Need-returns
 returns c =
-    rw (← c .before .before .before .before .before .before .before .before .before .before .number-of .ensures)
+    rw (← c .before .before .before .before .before .before .before .before .before .before .number .ensures)
     (then (rw (c .before .before .before .before .before .before .before .before .tens .ensures) at (c .before .before .before .before .before .before .before .put-char .ensures))
     (rw (c .before .before .before .tens2 .ensures) at (c .before .before .put-char2 .ensures)))
 
@@ -15,6 +15,7 @@ put-number-spec =
     tie.close
     (tie.spec
     (λ c κs. search needs)
+    (λ c. search needs)
     (λ c κs. search needs)
     (λ c κs. search needs)
     (λ c κs. search needs)
