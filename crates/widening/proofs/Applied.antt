@@ -2,7 +2,7 @@
 use Prim.Native.Nat.{ℕ}
 use mathlib.Core.Path.{_≡_, refl, sym, _∙_, ap}
 use mathlib.Core.Bool.{Bool}
-use mathlib.Core.List.{List, [], _∷_, _++_}
+use mathlib.Core.List.{List, [], _∷_, _++_, append-assoc}
 use Rattle.rules.specs.Paper.{Paper, paper, G}
 use Rattle.rules.specs.Step.{step}
 use Rattle.rules.specs.declared.Answer.{Answer}
@@ -11,9 +11,9 @@ use Rattle.rules.specs.declared.Reference.{Reference}
 use Rattle.rules.specs.declared.Event.{Event}
 use Rattle.rules.specs.declared.Event.the-variants.{Refer}
 use Rattle.rules.proofs.Papers.{paperOneToOne}
-use Rattle.widening.specs.LastMap.{inPhase}
+use Rattle.widening.specs.LastMap.{inPhase, Granted as Given}
 use Rattle.widening.specs.Runs.{after}
-use Rattle.widening.specs.Applied.{Applied, Ran, none, next, KeptByCalls}
+use Rattle.widening.specs.Applied.{Applied, Ran, none, next, KeptByCalls, NeverSharedByCalls}
 use Rattle.widening.proofs.LastMap.{demand3}
 
 -- the store that calls come to is the run's
@@ -21,15 +21,27 @@ came-to : {l m : List ℕ} {es : List Event} → Ran l es m → m ≡ after l es
 came-to none = refl
 came-to (next {es} e a h r) = came-to r ∙ ap (λ (k : List ℕ). after k es) (ap (λ (o : Paper × List ℕ). o .1) h)
 
-after-both : (l : List ℕ) (es fs : List Event) → after l (es ++ fs) ≡ after (after l es) fs
-after-both l [] fs = refl
-after-both l (e ∷ es) fs = after-both (step l e .1) es fs
+-- calls one after the other, and then more of them
+together : {l m n : List ℕ} {es fs : List Event} → Ran l es m → Ran m fs n → Ran l (es ++ fs) n
+together none q = q
+together (next e a h p) q = next e a h (together p q)
+
+-- what a call granted, `step` grants in the store that the run comes to
+asked :
+    {m k : List ℕ} (x : List ℕ) (r : Reference) (byte : ℕ) (trap : Bool)
+    → m ≡ k → Applied m (Refer r) (Granted byte trap) x → Given k r byte
+asked x r byte trap here g =
+    let granted = sym (ap (λ (o : Paper × List ℕ). o .0) g) in
+    (trap, rw here at granted)
 
 pub keptByCalls : KeptByCalls
 keptByCalls l m n on es fs p q calm r byte trap x g phase small a y h =
-    let here = came-to p in
-    let there = came-to q ∙ ap (λ (k : List ℕ). after k fs) here ∙ sym (after-both l es fs) in
-    let granted = sym (ap (λ (o : Paper × List ℕ). o .0) g) in
-    let kept = demand3 .kept l on es fs calm r byte (trap, rw here at granted) phase small in
+    let kept = demand3 .kept l on es fs calm r byte (asked x r byte trap (came-to p) g) phase small in
     let answer = ap (λ (o : Paper × List ℕ). o .0) h in
-    (kept .0, paperOneToOne a (Granted byte (kept .0)) ((rw there at answer) ∙ kept .1))
+    (kept .0, paperOneToOne a (Granted byte (kept .0)) ((rw (came-to (together p q)) at answer) ∙ kept .1))
+
+pub neverSharedByCalls : NeverSharedByCalls
+neverSharedByCalls l m n o on es fs gs p q s calm clear r t byte trap again x y g h =
+    demand3 .neverShared l on (es ++ (fs ++ gs)) es (fs ++ gs) (es ++ fs) gs refl (sym (append-assoc es fs gs)) calm
+    (rw (came-to (together p (together q s))) at clear) r t byte
+    (asked x r byte trap (came-to p) g) (asked y t byte again (came-to (together p q)) h)

@@ -12,6 +12,7 @@ use Rattle.rules.specs.declared.Reference.{Reference}
 use Rattle.rules.specs.declared.Event.{Event}
 use Rattle.rules.specs.declared.Event.the-variants.{Refer}
 use Rattle.widening.specs.LastMap.{On, inPhase}
+use Rattle.widening.specs.Reaches.{apart}
 use Rattle.widening.specs.Runs.{calm}
 
 -- a call that answers a, and takes the store l to m
@@ -30,3 +31,13 @@ KeptByCalls =
     → (r : Reference) (byte : ℕ) (trap : Bool) (x : List ℕ) → Applied m (Refer r) (Granted byte trap) x
     → (phase : ℕ) → phase ≤ 1 → (a : Answer) (y : List ℕ) → Applied n (Refer (inPhase phase r)) a y
     → (again : Bool) × (a ≡ Granted byte again)
+
+-- if the store that the calls come to in the end keeps the modes apart, two calls on the way that granted the same byte, one after es and one after
+-- fs too, granted it to one mode
+abbrev pub NeverSharedByCalls : Type 0
+NeverSharedByCalls =
+    (l m n o : List ℕ) → On l → (es fs gs : List Event) → Ran l es m → Ran m fs n → Ran n gs o → calm l (es ++ (fs ++ gs)) ≡ true
+    → apart o ≡ true
+    → (r q : Reference) (byte : ℕ) (trap again : Bool) (x y : List ℕ)
+    → Applied m (Refer r) (Granted byte trap) x → Applied n (Refer q) (Granted byte again) y
+    → r .mode ≡ q .mode
