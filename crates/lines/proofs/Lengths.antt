@@ -1,9 +1,9 @@
--- No line is empty, and none has more than eleven characters: each kind's length computes.
-use Prim.Native.Nat.{_<_, _≤_}
+-- No line is empty, and none is longer than the longest: each kind's length computes.
+use Prim.Native.Nat.{_<_}
 use lib.ListN.{length}
 use lib.Dec.{lit≤, lit<}
 use Rattle.rules.specs.Paper.{Paper, G, A, R, D, X}
-use Rattle.lines.specs.Lines.{lineOf}
+use Rattle.lines.specs.Lines.{lineOf, NoneLonger}
 
 pub some : (p : Paper) → 0 < length (lineOf p)
 unfolding lineOf
@@ -13,7 +13,7 @@ some (R word) = lit< tt
 some D = lit< tt
 some (X number) = lit< tt
 
-pub most : (p : Paper) → length (lineOf p) ≤ 11
+pub most : NoneLonger
 unfolding lineOf
 most (G byte trap) = lit≤ tt
 most (A nonresident length readonly) = lit≤ tt

@@ -1,5 +1,5 @@
 -- The line of an answer (01, "Recordings").
-use Prim.Native.Nat.{ℕ, _+_}
+use Prim.Native.Nat.{ℕ, _+_, _≤_}
 use mathlib.Core.Bool.{cond}
 use mathlib.Core.List.{List, [], _∷_, _++_}
 use lib.ListN.{length, take, drop}
@@ -40,6 +40,13 @@ lineOfParts (part ∷ rest) = joined part rest
 
 unfoldable pub lineOf : Paper → Text
 lineOf p = lineOfParts (parts p)
+
+-- the length of the longest line, a grant's
+abbrev pub longest : ℕ
+longest = 11
+
+abbrev pub NoneLonger : Type 0
+NoneLonger = (p : Paper) → length (lineOf p) ≤ longest
 
 -- a text at a place of the output, where it fits: how many bytes are written, and the output afterwards
 unfoldable pub placed : List ℕ → ℕ → Text → ℕ × List ℕ

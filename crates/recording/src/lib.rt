@@ -14,7 +14,7 @@ ghost use lib.ListN.{length};
 ghost use lib.Dec.{ltb, eqb};
 ghost use mathlib.Core.Bool.{cond};
 ghost use Rattle.rules.specs.Paper.{X, number};
-ghost use Rattle.lines.specs.Lines.{lineOf};
+ghost use Rattle.lines.specs.Lines.{lineOf, longest};
 ghost use Rattle.transcript.specs.Steps.{shown, replayed};
 ghost use Rattle.recording.specs.Parts.{taken, ended, ahead};
 
@@ -37,7 +37,7 @@ fn copy(from: &[u16], to: &mut [u16])
 // the store is kept aside where there is not room for any line
 fn keep(s: &[u16], spare: &mut [u16], room: usize)
     requires { ⌜ (length (now s) ≡ 100) × (length (now spare) ≡ 100) ⌝ }
-    ensures { λ r. ⌜ now (spare .exit) ≡ cond (ltb room 11) (now (s .entry)) (now (spare .entry)) ⌝ }
+    ensures { λ r. ⌜ now (spare .exit) ≡ cond (ltb room longest) (now (s .entry)) (now (spare .entry)) ⌝ }
 {
     if room < LONGEST {
         copy(s, spare);

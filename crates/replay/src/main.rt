@@ -8,6 +8,7 @@ ghost use mathlib.Core.Path.{_≡_};
 ghost use Prim.Native.Nat.{_+_, _≤_};
 ghost use lib.ListN.{length};
 ghost use Rattle.io.specs.Counts.{Counts};
+ghost use Rattle.transcript.specs.Claims.{Roomy};
 
 // How many bytes came, and whether a read failed.
 struct Input {
@@ -57,7 +58,7 @@ fn read_all(bytes: &mut [u8]) -> Input
 
 // the transcript from a store, a buffer of text after the other; false where it can't be written
 fn write_transcript(registers: &mut [u16], recording: &[u8], text: &mut [u8]) -> bool
-    requires { ⌜ 11 ≤ length (now text) ⌝ }
+    requires { ⌜ Roomy (length (now text)) ⌝ }
 {
     let mut at = 0;
     let mut over = false;

@@ -10,6 +10,7 @@ use lib.Dec.{eqb, ltb}
 use borrow.Author.Tests.{eq-eqb, le-ltb, eqb-true, ltb-false, not-false}
 use Rattle.rules.specs.Paper.{X, number}
 use Rattle.rules.specs.Step.{step}
+use Rattle.lines.specs.Lines.{longest}
 use Rattle.records.specs.Records.{recordAt}
 use Rattle.records.specs.declared.Found.{Found}
 use Rattle.records.specs.declared.Found.the-variants.{Whole, Refused, End}
@@ -21,11 +22,11 @@ use Rattle.transcript.specs.declared.Place.{Place}
 use Rattle.transcript.proofs.Kept.{kept}
 use Rattle.transcript.proofs.Bound.{any-bound, few}
 
--- the first turn of those left, with a line that is neither empty nor longer than eleven
+-- the first turn of those left, with a line that is neither empty nor longer than the longest
 pub record First (r : List ℕ) (p : Place) (l : List ℕ) (t : Turn) (ts : List Turn) : Type 0 where
   pub left : turnsFrom r p l ≡ t ∷ ts
   pub some : 0 < length (t .line)
-  pub most : length (t .line) ≤ 11
+  pub most : length (t .line) ≤ longest
 
 abbrev pub Chain : List ℕ → Place → List ℕ → List Turn → Type 0
 Chain r p l [] = Unit

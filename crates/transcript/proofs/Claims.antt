@@ -12,7 +12,7 @@ use Rattle.lines.specs.Lines.{Text}
 use Rattle.transcript.specs.Turns.{Turn, placeAt}
 use Rattle.transcript.specs.Transcript.{turnsFrom, textOf, storeAfter}
 use Rattle.transcript.specs.Steps.{Stretch, stretch, after, fitting, stepsOf}
-use Rattle.transcript.specs.Claims.{Together, Finished, AtOnce, stepsLeft, Progress, Roomy, InSteps}
+use Rattle.transcript.specs.Claims.{Together, Finished, AtOnce, stepsLeft, Progress, Roomy, AllRoomy, InSteps}
 use Rattle.transcript.specs.declared.Place.{Place}
 use Rattle.transcript.proofs.Chains.{Chain, chain, count}
 
@@ -77,7 +77,7 @@ pub at-once : AtOnce
 at-once r p l room h = all-fit p l (turnsFrom r p l) room h
 
 -- a step with room for a line takes a turn, if one is left
-takes : (r : List ℕ) (p : Place) (l : List ℕ) (t : Turn) (ts : List Turn) (room : ℕ) → Chain r p l (t ∷ ts) → 11 ≤ room
+takes : (r : List ℕ) (p : Place) (l : List ℕ) (t : Turn) (ts : List Turn) (room : ℕ) → Chain r p l (t ∷ ts) → Roomy room
     → length (rest room (t ∷ ts)) < length (t ∷ ts)
 unfolding rest
 takes r p l t ts room c h =
@@ -89,7 +89,7 @@ one-fewer : (over : Bool) (m n : ℕ) → m < n → cond over 0 (1 + m) < 1 + n
 one-fewer true m n h = omega arith
 one-fewer false m n h = omega arith
 
-fewer-left : (r : List ℕ) (p : Place) (l : List ℕ) (ts : List Turn) (room : ℕ) → Chain r p l ts → 11 ≤ room
+fewer-left : (r : List ℕ) (p : Place) (l : List ℕ) (ts : List Turn) (room : ℕ) → Chain r p l ts → Roomy room
     → let q = fitting room p l ts in stepsLeft r (q .place) (q .store) < 1 + length ts
 unfolding fitting
 fewer-left r p l [] room c h = omega arith
@@ -122,7 +122,7 @@ unfolding fitting
 last room rooms r p l = let f = stays rooms r (p .at) l in record { text = f .text; store = f .store; over = f .over }
 
 all-taken : (rooms : List ℕ) (r : List ℕ) (p : Place) (l : List ℕ) (ts : List Turn) → Chain r p l ts → turnsFrom r p l ≡ ts
-    → Roomy rooms → length ts < length rooms → Finished (stepsOf r p l rooms) (textOf ts, storeAfter l ts)
+    → AllRoomy rooms → length ts < length rooms → Finished (stepsOf r p l rooms) (textOf ts, storeAfter l ts)
 unfolding stepsOf
 all-taken [] r p l ts c e w h = absurd (omega arith)
 all-taken (room ∷ rooms) r p l [] c e w h = rw e (last room rooms r p l)

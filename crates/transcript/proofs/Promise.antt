@@ -6,7 +6,7 @@ use Prim.Native.Nat.{ℕ, _<_, _≤_}
 use native.Mathlib.Omega.{arith}
 use lib.ListN.{length, drop, length-append}
 use Rattle.transcript.specs.Steps.{stepOf, replayed}
-use Rattle.transcript.specs.Claims.{stepsLeft}
+use Rattle.transcript.specs.Claims.{stepsLeft, Roomy}
 use Rattle.transcript.specs.declared.Place.{Place}
 use Rattle.transcript.specs.declared.Stepped.{Stepped}
 use Rattle.transcript.proofs.Claims.{progress}
@@ -23,6 +23,6 @@ module _ (l r : List ℕ) (p : Place) (out : List ℕ) (x : Kept) (e : x ≡ rep
       let w : length (x .2) ≡ length (q .text ++ drop (length (q .text)) out) = ap (λ (y : Kept). length (y .2)) e in
       omega (arith, n, w, length-append (q .text) (drop (length (q .text)) out))
 
-  pub fewer : p .over ≡ false → 11 ≤ length out → stepsLeft r (x .0 .place) (x .1) < stepsLeft r p l
+  pub fewer : p .over ≡ false → Roomy (length out) → stepsLeft r (x .0 .place) (x .1) < stepsLeft r p l
   unfolding replayed
   fewer o h = rw e (progress r p l (length out) o h)

@@ -6,7 +6,7 @@ use mathlib.Core.List.{List, [], _∷_, _++_}
 use lib.ListN.{length, replicate}
 use Rattle.records.specs.Records.{recordAt}
 use Rattle.rules.specs.Paper.{G, R, D}
-use Rattle.lines.specs.Lines.{Text, lineOf}
+use Rattle.lines.specs.Lines.{Text, lineOf, longest}
 use Rattle.transcript.specs.Turns.{placeAt, turns, turnsOf}
 use Rattle.transcript.specs.Transcript.{turnsFrom, left, transcript}
 use Rattle.transcript.specs.Steps.{Stretch, stepOf, stepsOf}
@@ -40,23 +40,26 @@ AtOnce =
 abbrev pub stepsLeft : List ℕ → Place → List ℕ → ℕ
 stepsLeft r p l = cond (p .over) 0 (1 + length (turnsFrom r p l))
 
--- a step with room for a line, the longest of which has 11 characters, leaves fewer
+-- room for any line
+abbrev pub Roomy : ℕ → Type 0
+Roomy room = longest ≤ room
+
+-- a step with room for any line leaves fewer
 abbrev pub Progress : Type 0
 Progress =
     (r : List ℕ) (p : Place) (l : List ℕ) (room : ℕ)
-    → p .over ≡ false → 11 ≤ room
+    → p .over ≡ false → Roomy room
     → let q = stepOf r p l room in stepsLeft r (q .place) (q .store) < stepsLeft r p l
 
--- each with room for a line
-abbrev pub Roomy : List ℕ → Type 0
-Roomy [] = Unit
-Roomy (room ∷ rooms) = (11 ≤ room) × Roomy rooms
+abbrev pub AllRoomy : List ℕ → Type 0
+AllRoomy [] = Unit
+AllRoomy (room ∷ rooms) = Roomy room × AllRoomy rooms
 
--- enough steps, each with room for a line, write exactly the transcript
+-- enough steps, each with room for any line, write exactly the transcript
 abbrev pub InSteps : Type 0
 InSteps =
     (r : List ℕ) (l : List ℕ) (rooms : List ℕ)
-    → Roomy rooms → length r + 1 < length rooms → Finished (stepsOf r (placeAt 0 false) l rooms) (transcript r l)
+    → AllRoomy rooms → length r + 1 < length rooms → Finished (stepsOf r (placeAt 0 false) l rooms) (transcript r l)
 
 -- the whole case of 01, from all registers 0
 abbrev pub wholeCase : List ℕ

@@ -11,7 +11,7 @@ use borrow.Author.Tests.{leb-true, leb-false, ne-eqb, lt-ltb}
 use Rattle.rules.specs.Paper.{Paper}
 use Rattle.rules.specs.Step.{step}
 use Rattle.rules.specs.declared.Event.{Event}
-use Rattle.lines.specs.Lines.{lineOf, placed}
+use Rattle.lines.specs.Lines.{lineOf, longest, placed}
 use Rattle.lines.proofs.Lengths.{some, most}
 use Rattle.lines.proofs.Output.{fits, unfit}
 use Rattle.recording.specs.Parts.{taken}
@@ -22,16 +22,16 @@ module _ (l : List ℕ) (e : Event) (out : List ℕ) (n : ℕ) (w : n ≤ length
   -- by whether the line fits
   by-room : (b : Bool) (p : Paper) (l' spare : List ℕ) (k : ℕ) (out' : List ℕ) → leb (length (lineOf p)) (length out - n) ≡ b
       → (p, l') ≡ step l e → (k, out') ≡ placed out n (lineOf p)
-      → (k, cond (eqb k 0) (cond (ltb (length out - n) 11) l spare) l', out') ≡ taken l e out n
+      → (k, cond (eqb k 0) (cond (ltb (length out - n) longest) l spare) l', out') ≡ taken l e out n
   unfolding taken
   by-room true p l' spare k out' h q u =
       let z : k ≡ length (lineOf p) = ap (λ (y : ℕ × List ℕ). y .0) (u ∙ fits out n (lineOf p) (omega (arith, leb-true (length (lineOf p)) (length out - n) h, w))) in
       rw (← q, h, ← u, ne-eqb k 0 (λ e. omega (arith, some p, z, e)))
   by-room false p l' spare k out' h q u =
       let v : _≡_ {A = ℕ × List ℕ} (k, out') (0, out) = u ∙ unfit out n (lineOf p) (omega (arith, leb-false (length (lineOf p)) (length out - n) h, w)) in
-      rw (← q, h, ap (λ (y : ℕ × List ℕ). y .0) v, ap (λ (y : ℕ × List ℕ). y .1) v, lt-ltb (length out - n) 11 (omega (arith, leb-false (length (lineOf p)) (length out - n) h, most p)))
+      rw (← q, h, ap (λ (y : ℕ × List ℕ). y .0) v, ap (λ (y : ℕ × List ℕ). y .1) v, lt-ltb (length out - n) longest (omega (arith, leb-false (length (lineOf p)) (length out - n) h, most p)))
 
-  taking : (p : Paper) (l' spare spare' : List ℕ) (k : ℕ) (out' l'' : List ℕ) → spare' ≡ cond (ltb (length out - n) 11) l spare
+  taking : (p : Paper) (l' spare spare' : List ℕ) (k : ℕ) (out' l'' : List ℕ) → spare' ≡ cond (ltb (length out - n) longest) l spare
       → (p, l') ≡ step l e → (k, out') ≡ placed out n (lineOf p) → l'' ≡ cond (eqb k 0) spare' l' → (k, l'', out') ≡ taken l e out n
   taking p l' spare spare' k out' l'' v q u x =
       rw (x, v) (by-room (leb (length (lineOf p)) (length out - n)) p l' spare k out' refl q u)
