@@ -27,8 +27,11 @@ returns-2 c = rw (eq-eqb _ _ (c .before .if1 .left), lt-ltb _ _ (c .if2 .taken))
 returns-3 : tie.Need-returns-3
 unfolding auditOf
 returns-3 c =
-    rw (c .apart .ensures, eq-eqb _ _ (c .before .before .before .before .before .before .before .if1 .left), le-ltb _ _ (c .before .before .before .before .before .before .if2 .left))
-    (ap reported (c .before .before .before .before .survey .ensures))
+    let at-survey = c .before .before .before .before in
+    let at-if2 = at-survey .before .before in
+    let at-if1 = at-if2 .before in
+    rw (c .apart .ensures, eq-eqb _ _ (at-if1 .if1 .left), le-ltb _ _ (at-if2 .if2 .left))
+    (ap reported (at-survey .survey .ensures))
 
 pub audit-spec : {M : Type 1} → statement M
 audit-spec = tie.close (tie.spec returns returns-2 (λ c κs. search needs) (λ c κs. search needs) (λ c. search needs) returns-3)

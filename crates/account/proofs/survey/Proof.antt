@@ -37,17 +37,25 @@ returns-2 c =
     sym (stopped-over _ _ _ _ _ _ (loop .inv .1 .0) (sym (c .before .before .before .read .ensures) ∙ c .before .found .given .1)) ∙ loop .inv .1 .1
 
 loop-less : tie.Need-loop-less Inv-loop μ-loop
-loop-less c = omega (arith, advances _ _ _ _ (sym (c .before .before .before .before .before .before .before .before .before .before .before .before .read .ensures) ∙ c .before .before .before .before .before .before .before .before .before .before .found2 .given .1))
+loop-less c =
+    let at-found2 = c .before .before .before .before .before .before .before .before .before .before in
+    let at-read = at-found2 .before .before in
+    omega (arith, advances _ _ _ _ (sym (at-read .read .ensures) ∙ at-found2 .found2 .given .1))
 
 loop-again : tie.Need-loop-again Inv-loop μ-loop
 loop-again c =
-    let loop = c .before .before .before .before .before .before .before .before .before .before .before .before .before .loop in
-    let found = sym (c .before .before .before .before .before .before .before .before .before .before .before .before .read .ensures) ∙ c .before .before .before .before .before .before .before .before .before .before .found2 .given .1 in
-    let stepped = ap (λ (q : Paper × List ℕ). q .1) (c .before .before .before .before .before .apply .ensures) in (
-      c .before .before .before .before .before .apply .kept .0 ∙ loop .inv .0,
+    let at-apply = c .before .before .before .before .before in
+    let at-widens = at-apply .before .before in
+    let at-found2 = at-widens .before .before .before in
+    let at-read = at-found2 .before .before in
+    let at-loop = at-read .before in
+    let loop = at-loop .loop in
+    let found = sym (at-read .read .ensures) ∙ at-found2 .found2 .given .1 in
+    let stepped = ap (λ (q : Paper × List ℕ). q .1) (at-apply .apply .ensures) in (
+      at-apply .apply .kept .0 ∙ loop .inv .0,
       (
-        rw (c .before .kept-after .ensures, stepped) (sound-turn _ _ _ (loop .inv .0) _ _ found (loop .kept) (c .before .before .before .before .before .before .before .widens .result)),
-        rw (c .before .kept-after .ensures, c .broken-after .ensures, c .before .before .before .before .before .before .before .widens .ensures, stepped)
+        rw (c .before .kept-after .ensures, stepped) (sound-turn _ _ _ (loop .inv .0) _ _ found (loop .kept) (at-widens .widens .result)),
+        rw (c .before .kept-after .ensures, c .broken-after .ensures, at-widens .widens .ensures, stepped)
             (sym (turned _ _ _ (loop .inv .0) _ _ found _ _ (loop .inv .1 .0)) ∙ loop .inv .1 .1),
       ),
     )

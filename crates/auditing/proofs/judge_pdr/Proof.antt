@@ -13,15 +13,28 @@ returns-2 c = rw (sym (c .before .before .absent .ensures) ∙ c .before .if1 .l
 
 returns-3 : tie.Need-returns-3
 returns-3 c =
-    rw (sym (c .before .before .before .before .absent .ensures) ∙ c .before .before .before .if1 .left, eq-eqb _ _ (c .before .before .if2 .left), sym (c .before .keeps-blocks .ensures) ∙ not-true _ (c .if3 .taken))
+    let at-if2 = c .before .before in
+    let at-if1 = at-if2 .before in
+    let at-absent = at-if1 .before in
+    rw (sym (at-absent .absent .ensures) ∙ at-if1 .if1 .left, eq-eqb _ _ (at-if2 .if2 .left), sym (c .before .keeps-blocks .ensures) ∙ not-true _ (c .if3 .taken))
 
 returns-4 : tie.Need-returns-4
 returns-4 c =
-    rw (sym (c .before .keeps-rights .ensures) ∙ not-true _ (c .if4 .taken), sym (c .before .before .before .before .before .before .absent .ensures) ∙ c .before .before .before .before .before .if1 .left, eq-eqb _ _ (c .before .before .before .before .if2 .left), sym (c .before .before .before .keeps-blocks .ensures) ∙ not-false _ (c .before .before .if3 .left))
+    let at-if3 = c .before .before in
+    let at-keeps-blocks = at-if3 .before in
+    let at-if2 = at-keeps-blocks .before in
+    let at-if1 = at-if2 .before in
+    let at-absent = at-if1 .before in
+    rw (sym (c .before .keeps-rights .ensures) ∙ not-true _ (c .if4 .taken), sym (at-absent .absent .ensures) ∙ at-if1 .if1 .left, eq-eqb _ _ (at-if2 .if2 .left), sym (at-keeps-blocks .keeps-blocks .ensures) ∙ not-false _ (at-if3 .if3 .left))
 
 returns-5 : tie.Need-returns-5
 returns-5 c =
-    rw (sym (c .before .keeps-rights .ensures) ∙ not-false _ (c .if4 .left), sym (c .before .before .before .before .before .before .absent .ensures) ∙ c .before .before .before .before .before .if1 .left, eq-eqb _ _ (c .before .before .before .before .if2 .left), sym (c .before .before .before .keeps-blocks .ensures) ∙ not-false _ (c .before .before .if3 .left))
+    let at-if3 = c .before .before in
+    let at-keeps-blocks = at-if3 .before in
+    let at-if2 = at-keeps-blocks .before in
+    let at-if1 = at-if2 .before in
+    let at-absent = at-if1 .before in
+    rw (sym (c .before .keeps-rights .ensures) ∙ not-false _ (c .if4 .left), sym (at-absent .absent .ensures) ∙ at-if1 .if1 .left, eq-eqb _ _ (at-if2 .if2 .left), sym (at-keeps-blocks .keeps-blocks .ensures) ∙ not-false _ (at-if3 .if3 .left))
 
 pub judge-pdr-spec : {M : Type 1} → statement M
 judge-pdr-spec =

@@ -17,19 +17,31 @@ returns-2 c = rw (ne-eqb _ _ (c .before .before .before .if1 .left), sym (c .bef
 returns-3 : tie.Need-returns-3
 unfolding placeVerdict
 returns-3 c =
-    rw (ne-eqb _ _ (c .before .before .before .before .before .before .before .if1 .left), sym (c .before .before .before .before .before .left-on .ensures) ∙ not-false _ (c .before .before .before .before .if2 .left), lt-ltb _ _ (c .before .before .before .if3 .taken))
+    let at-if3 = c .before .before .before in
+    let at-if2 = at-if3 .before in
+    let at-left-on = at-if2 .before in
+    let at-if1 = at-left-on .before .before in
+    rw (ne-eqb _ _ (at-if1 .if1 .left), sym (at-left-on .left-on .ensures) ∙ not-false _ (at-if2 .if2 .left), lt-ltb _ _ (at-if3 .if3 .taken))
     (c .judge-par .ensures)
 
 returns-4 : tie.Need-returns-4
 unfolding placeVerdict
 returns-4 c =
-    rw (ne-eqb _ _ (c .before .before .before .before .before .before .before .if1 .left), sym (c .before .before .before .before .before .left-on .ensures) ∙ not-false _ (c .before .before .before .before .if2 .left), le-ltb _ _ (c .before .before .before .if3 .left), lt-ltb _ _ (c .before .before .if4 .taken))
+    let at-if4 = c .before .before in
+    let at-if3 = at-if4 .before in
+    let at-if2 = at-if3 .before in
+    let at-left-on = at-if2 .before in
+    let at-if1 = at-left-on .before .before in
+    rw (ne-eqb _ _ (at-if1 .if1 .left), sym (at-left-on .left-on .ensures) ∙ not-false _ (at-if2 .if2 .left), le-ltb _ _ (at-if3 .if3 .left), lt-ltb _ _ (at-if4 .if4 .taken))
     (c .judge-pdr .ensures)
 
 returns-5 : tie.Need-returns-5
 unfolding placeVerdict
 returns-5 c =
-    rw (ne-eqb _ _ (c .before .before .before .before .before .if1 .left), sym (c .before .before .before .left-on .ensures) ∙ not-false _ (c .before .before .if2 .left), le-ltb _ _ (c .before .if3 .left), le-ltb _ _ (c .if4 .left))
+    let at-if2 = c .before .before in
+    let at-left-on = at-if2 .before in
+    let at-if1 = at-left-on .before .before in
+    rw (ne-eqb _ _ (at-if1 .if1 .left), sym (at-left-on .left-on .ensures) ∙ not-false _ (at-if2 .if2 .left), le-ltb _ _ (c .before .if3 .left), le-ltb _ _ (c .if4 .left))
 
 pub judge-place-spec : {M : Type 1} → statement M
 judge-place-spec =

@@ -14,11 +14,16 @@ returns c = rw (ne-eqb _ _ (c .if1 .taken))
 
 returns-2 : tie.Need-returns-2
 returns-2 c =
-    rw (c .before .before .before .e .given .1, write-verdict _ (c .before .before .before .before .before .if1 .left), ← c .before .register-at .ensures, le-ltb _ _ (c .if2 .taken))
+    let at-e = c .before .before .before in
+    let at-if1 = at-e .before .before in
+    rw (at-e .e .given .1, write-verdict _ (at-if1 .if1 .left), ← c .before .register-at .ensures, le-ltb _ _ (c .if2 .taken))
 
 returns-3 : tie.Need-returns-3
 returns-3 c =
-    rw (c .before .before .before .before .e .given .1, write-verdict _ (c .before .before .before .before .before .before .if1 .left), ← c .before .before .register-at .ensures, lt-ltb _ _ (c .before .if2 .left))
+    let at-register-at = c .before .before in
+    let at-e = at-register-at .before .before in
+    let at-if1 = at-e .before .before in
+    rw (at-e .e .given .1, write-verdict _ (at-if1 .if1 .left), ← at-register-at .register-at .ensures, lt-ltb _ _ (c .before .if2 .left))
     (c .judge-place .ensures)
 
 returns-4 : tie.Need-returns-4

@@ -10,7 +10,10 @@ code-requires : tie.Need-code-requires
 code-requires c κs = small _ (Change _ _) tt (c .before .before .note-change .ensures)
 
 returns : tie.Need-returns
-returns c = rw (c .code .ensures, ← toZ-ofZ (c .before .before .before .before .before .before .fits .amount), ← c .before .before .before .note-change .ensures)
+returns c =
+    let at-note-change = c .before .before .before in
+    let at-fits = at-note-change .before .before .before in
+    rw (c .code .ensures, ← toZ-ofZ (at-fits .fits .amount), ← at-note-change .note-change .ensures)
 
 pub kt11c-change-spec : {M : Type 1} → statement M
 kt11c-change-spec = tie.close (tie.spec (λ c κs. search needs) code-requires (λ c. search needs) returns)

@@ -12,7 +12,11 @@ returns c = rw (← same (c .before .args .address), eq-eqb _ _ (c .if1 .taken))
 
 returns-2 : tie.Need-returns-2
 unfolding byPart
-returns-2 c = rw (← same (c .before .before .before .before .args .address), ← c .before .before .first-page .ensures .0, ne-eqb _ _ (c .before .before .before .if1 .left), eq-eqb _ _ (c .before .if2 .taken)) (c .status-at .ensures)
+returns-2 c =
+    let at-first-page = c .before .before in
+    let at-if1 = at-first-page .before in
+    let start = at-if1 .before in
+    rw (← same (start .args .address), ← at-first-page .first-page .ensures .0, ne-eqb _ _ (at-if1 .if1 .left), eq-eqb _ _ (c .before .if2 .taken)) (c .status-at .ensures)
 
 returns-3 : tie.Need-returns-3
 unfolding byPart

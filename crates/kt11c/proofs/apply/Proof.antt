@@ -23,9 +23,11 @@ returns-5 c = rw (c .before .before .before .before .before .e5 .given .1) (c .b
 
 returns-6 : tie.Need-returns-6
 returns-6 c =
-    let z = c .before .before .before .before .before .e6 .given .0 .1 .0 in
+    let at-note-change = c .before .before in
+    let at-e6 = at-note-change .before .before .before in
+    let z = at-e6 .e6 .given .0 .1 .0 in
     let same : toZ w32 (ofZ w32 z) ≡ z = search needs in
-    rw (c .before .before .before .before .before .e6 .given .1, ← same) (c .before .before .note-change .ensures)
+    rw (at-e6 .e6 .given .1, ← same) (at-note-change .note-change .ensures)
 
 returns-7 : tie.Need-returns-7
 returns-7 c = rw (c .before .before .before .before .enum-told .given .1) (c .before .before .init .ensures)

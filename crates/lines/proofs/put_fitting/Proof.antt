@@ -22,7 +22,10 @@ put-done-requires c κs = rw (c .before .enum-told .given .1) at (c .before .bef
 
 put-refused-requires : tie.Need-put-refused-requires
 unfolding lineOf
-put-refused-requires c κs = rw (c .before .before .before .a4 .given .1) at (c .before .before .before .before .before .before .pre)
+put-refused-requires c κs =
+    let at-a4 = c .before .before .before in
+    let at-pre = at-a4 .before .before .before in
+    rw (at-a4 .a4 .given .1) at (at-pre .pre)
 
 returns : tie.Need-returns
 returns c = rw (c .before .before .before .before .before .a .given .1) (c .before .before .put-granted .ensures)
@@ -37,7 +40,11 @@ returns-4 : tie.Need-returns-4
 returns-4 c = rw (c .before .before .before .before .enum-told .given .1) (c .before .before .put-done .ensures)
 
 returns-5 : tie.Need-returns-5
-returns-5 c = rw (c .before .before .before .before .before .before .a4 .given .1, ← c .before .before .before .number .ensures) (c .before .before .put-refused .ensures)
+returns-5 c =
+    let at-put-refused = c .before .before in
+    let at-number = at-put-refused .before in
+    let at-a4 = at-number .before .before .before in
+    rw (at-a4 .a4 .given .1, ← at-number .number .ensures) (at-put-refused .put-refused .ensures)
 
 pub put-fitting-spec : {M : Type 1} → statement M
 put-fitting-spec =

@@ -27,8 +27,11 @@ same-length c = simp length-set (simp length-set at (c .before .before .before .
 
 returns : tie.Need-returns
 unfolding lineOf
-returns c = let at = c .before .before .before .before .before .before .args .at in
-    rw (c .before .before .before .put-octal .ensures, c .mark .ensures, place 1 at, place 2 at, place 8 at, place 9 at, place 10 at)
+returns c =
+    let at-put-octal = c .before .before .before in
+    let start = at-put-octal .before .before .before in
+    let at = start .args .at in
+    rw (at-put-octal .put-octal .ensures, c .mark .ensures, place 1 at, place 2 at, place 8 at, place 9 at, place 10 at)
 
 pub put-granted-spec : {M : Type 1} → statement M
 put-granted-spec =

@@ -13,16 +13,22 @@ returns c = rw (sym (absent _) ∙ (rw (c .before .right-of .ensures) at (c .if1
 
 sight-blocks-requires : tie.Need-sight-blocks-requires
 sight-blocks-requires c κs =
-    let z = range-small (c .before .before .before .before .before .before .args .pdr) in (
-      c .before .before .before .before .before .before .pre,
+    let start = c .before .before .before .before .before .before in
+    let z = range-small (start .args .pdr) in (
+      start .pre,
       (rw (c .before .first-block .ensures, c .end-block .ensures .0) (z .0), c .end-block .ensures .1),
     )
 
 returns-2 : tie.Need-returns-2
 unfolding pagePass
 returns-2 c =
-    rw (sym (absent _) ∙ (rw (c .before .before .before .before .before .before .before .right-of .ensures) at (c .before .before .before .before .before .before .if1 .left)))
-    (rw (c .before .before .before .before .first-block .ensures, c .before .before .before .end-block .ensures .0) at (c .before .before .sight-blocks .ensures))
+    let at-sight-blocks = c .before .before in
+    let at-end-block = at-sight-blocks .before in
+    let at-first-block = at-end-block .before in
+    let at-if1 = at-first-block .before .before in
+    let at-right-of = at-if1 .before in
+    rw (sym (absent _) ∙ (rw (at-right-of .right-of .ensures) at (at-if1 .if1 .left)))
+    (rw (at-first-block .first-block .ensures, at-end-block .end-block .ensures .0) at (at-sight-blocks .sight-blocks .ensures))
 
 pub sight-page-spec : {M : Type 1} → statement M
 sight-page-spec =

@@ -18,12 +18,15 @@ abbrev μ-loop : tie.MeasureT-loop
 
 loop-again : tie.Need-loop-again Inv-loop μ-loop
 loop-again c =
-    let h = c .before .before .before .before .before .before .before .loop .inv in (
+    let at-sight-page = c .before .before in
+    let at-loop-test = at-sight-page .before .before .before .before in
+    let at-loop = at-loop-test .before in
+    let h = at-loop .loop .inv in (
       search needs,
       (
         search needs,
-        rw (c .before .before .sight-page .ensures)
-            (sym (pages-next _ _ _ _ (c .before .before .before .before .before .before .loop-test .taken)) ∙ h .1 .1),
+        rw (at-sight-page .sight-page .ensures)
+            (sym (pages-next _ _ _ _ (at-loop-test .loop-test .taken)) ∙ h .1 .1),
       ),
     )
 

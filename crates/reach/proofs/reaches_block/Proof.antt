@@ -28,18 +28,30 @@ returns-4 c =
 returns-5 : tie.Need-returns-5
 unfolding reachingOf
 returns-5 c =
-    let p = rw (c .before .before .before .before .first-page .ensures .0, c .before .before .pages-of .ensures .0, count) at (c .before .some-page .ensures) in
-    let a = c .before .before .before .before .before .before .before .before .before .before .args in
-    let t = legal-reaches (a .s .now) (a .mode) (a .block) (c .before .before .before .before .before .before .before .if2 .left) (c .before .before .before .before .before .before .if3 .left) ∙ (sym p ∙ c .if5 .taken) in
-    rw (eq-eqb _ _ (c .before .before .before .before .before .before .before .before .if1 .left), le-ltb _ _ (c .before .before .before .before .before .before .before .if2 .left), t)
+    let at-pages-of = c .before .before in
+    let at-first-page = at-pages-of .before .before in
+    let at-if3 = at-first-page .before .before in
+    let at-if2 = at-if3 .before in
+    let at-if1 = at-if2 .before in
+    let start = at-if1 .before .before in
+    let p = rw (at-first-page .first-page .ensures .0, at-pages-of .pages-of .ensures .0, count) at (c .before .some-page .ensures) in
+    let a = start .args in
+    let t = legal-reaches (a .s .now) (a .mode) (a .block) (at-if2 .if2 .left) (at-if3 .if3 .left) ∙ (sym p ∙ c .if5 .taken) in
+    rw (eq-eqb _ _ (at-if1 .if1 .left), le-ltb _ _ (at-if2 .if2 .left), t)
 
 returns-6 : tie.Need-returns-6
 unfolding reachingOf
 returns-6 c =
-    let p = rw (c .before .before .before .before .first-page .ensures .0, c .before .before .pages-of .ensures .0, count) at (c .before .some-page .ensures) in
-    let a = c .before .before .before .before .before .before .before .before .before .before .args in
-    let t = legal-reaches (a .s .now) (a .mode) (a .block) (c .before .before .before .before .before .before .before .if2 .left) (c .before .before .before .before .before .before .if3 .left) ∙ (sym p ∙ c .if5 .left) in
-    rw (eq-eqb _ _ (c .before .before .before .before .before .before .before .before .if1 .left), le-ltb _ _ (c .before .before .before .before .before .before .before .if2 .left), t)
+    let at-pages-of = c .before .before in
+    let at-first-page = at-pages-of .before .before in
+    let at-if3 = at-first-page .before .before in
+    let at-if2 = at-if3 .before in
+    let at-if1 = at-if2 .before in
+    let start = at-if1 .before .before in
+    let p = rw (at-first-page .first-page .ensures .0, at-pages-of .pages-of .ensures .0, count) at (c .before .some-page .ensures) in
+    let a = start .args in
+    let t = legal-reaches (a .s .now) (a .mode) (a .block) (at-if2 .if2 .left) (at-if3 .if3 .left) ∙ (sym p ∙ c .if5 .left) in
+    rw (eq-eqb _ _ (at-if1 .if1 .left), le-ltb _ _ (at-if2 .if2 .left), t)
 
 pub reaches-block-spec : {M : Type 1} → statement M
 reaches-block-spec =

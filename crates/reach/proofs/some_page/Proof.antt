@@ -19,15 +19,21 @@ abbrev μ-loop : tie.MeasureT-loop
 
 returns : tie.Need-returns Inv-loop μ-loop
 returns c =
-    let a = c .before .before .before .before .before .before .before in
+    let at-loop-test = c .before .before .before .before in
+    let at-loop = at-loop-test .before in
+    let at-before = at-loop .before in
+    let a = at-before .before in
     let p = page-reaches _ _ _ (a .pre .1 .0) ∙ sym (c .before .page-holds .ensures) ∙ c .if1 .taken in
-    sym (some-here _ _ _ (c .before .before .before .before .loop-test .taken) p) ∙ c .before .before .before .before .before .loop .inv .1
+    sym (some-here _ _ _ (at-loop-test .loop-test .taken) p) ∙ at-loop .loop .inv .1
 
 loop-again : tie.Need-loop-again Inv-loop μ-loop
 loop-again c =
-    let a = c .before .before .before .before .before .before .before in
+    let at-loop-test = c .before .before .before .before in
+    let at-loop = at-loop-test .before in
+    let at-before = at-loop .before in
+    let a = at-before .before in
     let p = page-reaches _ _ _ (a .pre .1 .0) ∙ sym (c .before .page-holds .ensures) ∙ c .if1 .left in
-    (search needs, sym (some-next _ _ _ (c .before .before .before .before .loop-test .taken) p) ∙ c .before .before .before .before .before .loop .inv .1)
+    (search needs, sym (some-next _ _ _ (at-loop-test .loop-test .taken) p) ∙ at-loop .loop .inv .1)
 
 returns-2 : tie.Need-returns-2 Inv-loop μ-loop
 returns-2 c = sym (some-over _ _ _ (c .loop-test .left)) ∙ c .before .loop .inv .1

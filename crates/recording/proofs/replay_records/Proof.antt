@@ -24,7 +24,10 @@ loop-holds c =
     (c .before .before .before .pre, (refl, begins (a .recording .now) (a .start) (a .s .now) (a .out .now)))
 
 same-length : tie.Need-same-length Inv-loop μ-loop
-same-length c = c .before .before .before .loop .inv .0 ∙ sym (c .before .before .before .before .before .before .before .pre)
+same-length c =
+    let at-loop = c .before .before .before in
+    let at-pre = at-loop .before .before .before .before in
+    at-loop .loop .inv .0 ∙ sym (at-pre .pre)
 
 same-length-2 : tie.Need-same-length-2 Inv-loop μ-loop
 same-length-2 c = c .before .before .before .loop .inv .1 .1 .size
@@ -38,16 +41,26 @@ stop-requires : tie.Need-stop-requires Inv-loop μ-loop
 stop-requires c κs = c .before .before .before .before .before .loop .inv .1 .1 .within
 
 same-length-3 : tie.Need-same-length-3 Inv-loop μ-loop
-same-length-3 c = c .before .before .before .before .before .before .before .before .loop .inv .0 ∙ sym (c .before .before .before .before .before .before .before .before .before .before .before .before .pre)
+same-length-3 c =
+    let at-loop = c .before .before .before .before .before .before .before .before in
+    let at-pre = at-loop .before .before .before .before in
+    at-loop .loop .inv .0 ∙ sym (at-pre .pre)
 
 same-length-4 : tie.Need-same-length-4 Inv-loop μ-loop
-same-length-4 c = c .before .before .stop .kept .0 ∙ c .before .before .before .before .before .before .before .before .loop .inv .1 .1 .size
+same-length-4 c =
+    let at-stop = c .before .before in
+    let at-loop = at-stop .before .before .before .before .before .before in
+    at-stop .stop .kept .0 ∙ at-loop .loop .inv .1 .1 .size
 
 returns-2 : tie.Need-returns-2 Inv-loop μ-loop
 returns-2 c =
-    let loop = c .before .before .before .before .before .before .before .before .loop in
-    let found = sym (c .before .before .before .before .before .before .before .read .ensures) ∙ c .before .before .before .before .before .found .given .1 in
-    refused _ _ _ _ _ _ _ _ found (loop .inv .1 .1) _ _ (c .before .before .stop .ensures)
+    let at-stop = c .before .before in
+    let at-found = at-stop .before .before .before in
+    let at-read = at-found .before .before in
+    let at-loop = at-read .before in
+    let loop = at-loop .loop in
+    let found = sym (at-read .read .ensures) ∙ at-found .found .given .1 in
+    refused _ _ _ _ _ _ _ _ found (loop .inv .1 .1) _ _ (at-stop .stop .ensures)
 
 take-event-requires : tie.Need-take-event-requires Inv-loop μ-loop
 take-event-requires c κs =
@@ -55,16 +68,27 @@ take-event-requires c κs =
     (loop .inv .0, (loop .inv .1 .0, loop .inv .1 .1 .within))
 
 same-length-5 : tie.Need-same-length-5 Inv-loop μ-loop
-same-length-5 c = c .before .before .before .before .before .before .take-event .kept .0 ∙ c .before .before .before .before .before .before .before .before .before .before .before .before .before .before .loop .inv .0 ∙ sym (c .before .before .before .before .before .before .before .before .before .before .before .before .before .before .before .before .before .before .pre)
+same-length-5 c =
+    let at-take-event = c .before .before .before .before .before .before in
+    let at-loop = at-take-event .before .before .before .before .before .before .before .before in
+    let at-pre = at-loop .before .before .before .before in
+    at-take-event .take-event .kept .0 ∙ at-loop .loop .inv .0 ∙ sym (at-pre .pre)
 
 same-length-6 : tie.Need-same-length-6 Inv-loop μ-loop
-same-length-6 c = c .before .before .before .before .before .before .take-event .kept .1 .1 .0 ∙ c .before .before .before .before .before .before .before .before .before .before .before .before .before .before .loop .inv .1 .1 .size
+same-length-6 c =
+    let at-take-event = c .before .before .before .before .before .before in
+    let at-loop = at-take-event .before .before .before .before .before .before .before .before in
+    at-take-event .take-event .kept .1 .1 .0 ∙ at-loop .loop .inv .1 .1 .size
 
 returns-3 : tie.Need-returns-3 Inv-loop μ-loop
 returns-3 c =
-    let loop = c .before .before .before .before .before .before .before .before .before .before .before .before .before .before .loop in
-    let found = sym (c .before .before .before .before .before .before .before .before .before .before .before .before .before .read .ensures) ∙ c .before .before .before .before .before .before .before .before .before .before .before .found2 .given .1 in
-    leaves _ _ _ _ _ _ _ _ _ found (loop .inv .1 .1) _ _ _ (c .before .before .before .before .before .before .take-event .ensures) (c .if1 .taken)
+    let at-take-event = c .before .before .before .before .before .before in
+    let at-found2 = at-take-event .before .before .before .before .before in
+    let at-read = at-found2 .before .before in
+    let at-loop = at-read .before in
+    let loop = at-loop .loop in
+    let found = sym (at-read .read .ensures) ∙ at-found2 .found2 .given .1 in
+    leaves _ _ _ _ _ _ _ _ _ found (loop .inv .1 .1) _ _ _ (at-take-event .take-event .ensures) (c .if1 .taken)
 
 add-written : tie.Need-add-written Inv-loop μ-loop
 add-written c =
@@ -75,15 +99,21 @@ add-written c =
 
 loop-less : tie.Need-loop-less Inv-loop μ-loop
 loop-less c =
-    let found = sym (c .before .before .before .before .before .before .before .before .before .before .before .before .before .read .ensures) ∙ c .before .before .before .before .before .before .before .before .before .before .before .found2 .given .1 in
+    let at-found2 = c .before .before .before .before .before .before .before .before .before .before .before in
+    let at-read = at-found2 .before .before in
+    let found = sym (at-read .read .ensures) ∙ at-found2 .found2 .given .1 in
     omega (arith, advances _ _ _ _ found)
 
 loop-again : tie.Need-loop-again Inv-loop μ-loop
 loop-again c =
-    let loop = c .before .before .before .before .before .before .before .before .before .before .before .before .before .before .loop in
-    let found = sym (c .before .before .before .before .before .before .before .before .before .before .before .before .before .read .ensures) ∙ c .before .before .before .before .before .before .before .before .before .before .before .found2 .given .1 in (
-      c .before .before .before .before .before .before .take-event .kept .0 ∙ loop .inv .0,
-      (search needs, takes _ _ _ _ _ _ _ _ _ found (loop .inv .1 .1) _ _ _ (c .before .before .before .before .before .before .take-event .ensures) (c .if1 .left)),
+    let at-take-event = c .before .before .before .before .before .before in
+    let at-found2 = at-take-event .before .before .before .before .before in
+    let at-read = at-found2 .before .before in
+    let at-loop = at-read .before in
+    let loop = at-loop .loop in
+    let found = sym (at-read .read .ensures) ∙ at-found2 .found2 .given .1 in (
+      at-take-event .take-event .kept .0 ∙ loop .inv .0,
+      (search needs, takes _ _ _ _ _ _ _ _ _ found (loop .inv .1 .1) _ _ _ (at-take-event .take-event .ensures) (c .if1 .left)),
     )
 
 pub replay-records-spec : {M : Type 1} → statement M

@@ -8,7 +8,10 @@ use Rattle.references.proofs.examined.Tie as tie
 
 returns : tie.Need-returns
 unfolding examined
-returns c = rw (← c .before .before .before .before .before .before .before .enables-d .ensures, ← c .before .before .before .before .before .before .place-of .ensures .0, ← c .before .details .ensures, by-value, ← c .rule .ensures)
+returns c =
+    let at-place-of = c .before .before .before .before .before .before in
+    let at-enables-d = at-place-of .before in
+    rw (← at-enables-d .enables-d .ensures, ← at-place-of .place-of .ensures .0, ← c .before .details .ensures, by-value, ← c .rule .ensures)
 
 pub examined-spec : {M : Type 1} → statement M
 examined-spec =

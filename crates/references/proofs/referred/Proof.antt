@@ -7,11 +7,19 @@ use Rattle.references.proofs.referred.Tie as tie
 
 returns : tie.Need-returns
 unfolding referred
-returns c = rw (eq-eqb _ _ (c .before .before .before .before .before .before .if1 .taken), eq-eqb _ _ (c .before .before .before .before .if2 .taken)) (c .before .before .illegal-mode .ensures)
+returns c =
+    let at-illegal-mode = c .before .before in
+    let at-if2 = at-illegal-mode .before .before in
+    let at-if1 = at-if2 .before .before in
+    rw (eq-eqb _ _ (at-if1 .if1 .taken), eq-eqb _ _ (at-if2 .if2 .taken)) (at-illegal-mode .illegal-mode .ensures)
 
 returns-2 : tie.Need-returns-2
 unfolding referred
-returns-2 c = rw (eq-eqb _ _ (c .before .before .before .before .before .before .if1 .taken), ne-eqb _ _ (c .before .before .before .before .if2 .left)) (c .before .before .examined .ensures)
+returns-2 c =
+    let at-examined = c .before .before in
+    let at-if2 = at-examined .before .before in
+    let at-if1 = at-if2 .before .before in
+    rw (eq-eqb _ _ (at-if1 .if1 .taken), ne-eqb _ _ (at-if2 .if2 .left)) (at-examined .examined .ensures)
 
 returns-3 : tie.Need-returns-3
 unfolding referred

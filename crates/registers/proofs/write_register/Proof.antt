@@ -12,7 +12,11 @@ returns : tie.Need-returns
 returns c = rw (write-step, sym (c .before .before .before .find .ensures) ∙ c .before .refusal .given .1)
 
 returns-2 : tie.Need-returns-2
-returns-2 c = rw (write-step, sym (c .before .before .before .before .before .before .before .find .ensures) ∙ c .before .before .before .before .before .place .given .1, c .before .before .write-at .ensures)
+returns-2 c =
+    let at-write-at = c .before .before in
+    let at-place = at-write-at .before .before .before in
+    let at-find = at-place .before .before in
+    rw (write-step, sym (at-find .find .ensures) ∙ at-place .place .given .1, at-write-at .write-at .ensures)
 
 pub write-register-spec : {M : Type 1} → statement M
 write-register-spec =

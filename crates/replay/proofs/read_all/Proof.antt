@@ -19,28 +19,48 @@ abbrev μ-loop : tie.MeasureT-loop
 μ-loop bytes₀ count₀ bytes count = length bytes₀ - count
 
 same-length : tie.Need-same-length Inv-loop μ-loop
-same-length c = c .before .before .before .read-at .kept .0 ∙ c .before .before .before .before .before .before .loop .inv .1
+same-length c =
+    let at-read-at = c .before .before .before in
+    let at-loop = at-read-at .before .before .before in
+    at-read-at .read-at .kept .0 ∙ at-loop .loop .inv .1
 
 returns : tie.Need-returns Inv-loop μ-loop
-returns c = counts _ _ (omega (arith, c .before .before .before .read-at .kept .0, c .before .before .before .before .before .before .loop .inv .0))
+returns c =
+    let at-read-at = c .before .before .before in
+    let at-loop = at-read-at .before .before .before in
+    counts _ _ (omega (arith, at-read-at .read-at .kept .0, at-loop .loop .inv .0))
 
 same-length-2 : tie.Need-same-length-2 Inv-loop μ-loop
-same-length-2 c = c .before .before .before .before .before .read-at .kept .0 ∙ c .before .before .before .before .before .before .before .before .loop .inv .1
+same-length-2 c =
+    let at-read-at = c .before .before .before .before .before in
+    let at-loop = at-read-at .before .before .before in
+    at-read-at .read-at .kept .0 ∙ at-loop .loop .inv .1
 
 returns-2 : tie.Need-returns-2 Inv-loop μ-loop
-returns-2 c = counts _ _ (omega (arith, c .before .before .before .before .before .read-at .kept .0, c .before .before .before .before .before .before .before .before .loop .inv .0))
+returns-2 c =
+    let at-read-at = c .before .before .before .before .before in
+    let at-loop = at-read-at .before .before .before in
+    counts _ _ (omega (arith, at-read-at .read-at .kept .0, at-loop .loop .inv .0))
 
 add-count : tie.Need-add-count Inv-loop μ-loop
-add-count c = omega (arith, c .before .before .before .before .before .before .read-at .ensures, c .before .before .before .before .before .before .before .before .before .loop .inv .1)
+add-count c =
+    let at-read-at = c .before .before .before .before .before .before in
+    let at-loop = at-read-at .before .before .before in
+    omega (arith, at-read-at .read-at .ensures, at-loop .loop .inv .1)
 
 loop-less : tie.Need-loop-less Inv-loop μ-loop
-loop-less c = omega (arith, c .before .if2 .left, c .before .before .before .before .before .before .read-at .ensures, c .before .before .before .before .before .before .before .before .before .loop .inv .1)
+loop-less c =
+    let at-read-at = c .before .before .before .before .before .before in
+    let at-loop = at-read-at .before .before .before in
+    omega (arith, c .before .if2 .left, at-read-at .read-at .ensures, at-loop .loop .inv .1)
 
 loop-again : tie.Need-loop-again Inv-loop μ-loop
-loop-again c = (
-  omega (arith, c .before .before .before .before .before .before .read-at .ensures, c .before .before .before .before .before .before .read-at .kept .0),
-  c .before .before .before .before .before .before .read-at .kept .0 ∙ c .before .before .before .before .before .before .before .before .before .loop .inv .1,
-)
+loop-again c =
+    let at-read-at = c .before .before .before .before .before .before in
+    let at-loop = at-read-at .before .before .before in (
+      omega (arith, at-read-at .read-at .ensures, at-read-at .read-at .kept .0),
+      at-read-at .read-at .kept .0 ∙ at-loop .loop .inv .1,
+    )
 
 same-length-3 : tie.Need-same-length-3 Inv-loop μ-loop
 same-length-3 c = c .before .loop .inv .1

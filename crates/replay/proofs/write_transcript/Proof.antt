@@ -29,17 +29,30 @@ slice-aggregate-write-all c =
     sym (length-take-le _ _ (omega (arith, within _ _ _ _ _ (step .ensures) (step .kept .1 .1 .1 .0), step .kept .1 .1 .1 .0)))
 
 same-length : tie.Need-same-length Inv-loop μ-loop
-same-length c = c .before .before .before .before .before .before .before .replay .kept .0 ∙ c .before .before .before .before .before .before .before .before .before .before .before .loop .inv .0
+same-length c =
+    let at-replay = c .before .before .before .before .before .before .before in
+    let at-loop = at-replay .before .before .before .before in
+    at-replay .replay .kept .0 ∙ at-loop .loop .inv .0
 
 same-length-2 : tie.Need-same-length-2 Inv-loop μ-loop
-same-length-2 c = c .before .before .before .before .before .before .before .replay .kept .1 .1 .1 .0 ∙ c .before .before .before .before .before .before .before .before .before .before .before .loop .inv .1
+same-length-2 c =
+    let at-replay = c .before .before .before .before .before .before .before in
+    let at-loop = at-replay .before .before .before .before in
+    at-replay .replay .kept .1 .1 .1 .0 ∙ at-loop .loop .inv .1
 
 loop-less : tie.Need-loop-less Inv-loop μ-loop
 loop-less c =
-    fewer _ _ _ _ _ (c .before .before .before .before .before .before .before .replay .ensures) (not-true _ (c .before .before .before .before .before .before .before .before .before .before .loop-test .taken)) (omega (arith, c .before .before .before .before .before .before .before .before .before .before .before .loop .inv .1, c .before .before .before .before .before .before .before .before .before .before .before .before .before .before .before .pre))
+    let at-replay = c .before .before .before .before .before .before .before in
+    let at-loop-test = at-replay .before .before .before in
+    let at-loop = at-loop-test .before in
+    let at-pre = at-loop .before .before .before .before in
+    fewer _ _ _ _ _ (at-replay .replay .ensures) (not-true _ (at-loop-test .loop-test .taken)) (omega (arith, at-loop .loop .inv .1, at-pre .pre))
 
 loop-again : tie.Need-loop-again Inv-loop μ-loop
-loop-again c = (c .before .before .before .before .before .before .before .replay .kept .0 ∙ c .before .before .before .before .before .before .before .before .before .before .before .loop .inv .0, c .before .before .before .before .before .before .before .replay .kept .1 .1 .1 .0 ∙ c .before .before .before .before .before .before .before .before .before .before .before .loop .inv .1)
+loop-again c =
+    let at-replay = c .before .before .before .before .before .before .before in
+    let at-loop = at-replay .before .before .before .before in
+    (at-replay .replay .kept .0 ∙ at-loop .loop .inv .0, at-replay .replay .kept .1 .1 .1 .0 ∙ at-loop .loop .inv .1)
 
 same-length-3 : tie.Need-same-length-3 Inv-loop μ-loop
 same-length-3 c = c .before .loop .inv .0

@@ -13,23 +13,33 @@ key-small pdr = omega arith
 returns : tie.Need-returns
 unfolding rulingOf
 returns c =
-    let pdr = c .before .before .before .before .before .before .before .before .args .pdr in
-    let k = c .before .before .before .before .before .before .before .right-of .ensures in
-    let b = c .before .before .before .before .before .block-of .ensures .0 in
-    let l = c .before .before .before .before .length-error .ensures in
+    let at-length-error = c .before .before .before .before in
+    let at-block-of = at-length-error .before in
+    let at-right-of = at-block-of .before .before in
+    let start = at-right-of .before in
+    let pdr = start .args .pdr in
+    let k = at-right-of .right-of .ensures in
+    let b = at-block-of .block-of .ensures .0 in
+    let l = at-length-error .length-error .ensures in
     let t = rw (k, l, b, absent (pdr % 8), only-read (pdr % 8) (key-small pdr)) at (c .before .if1 .taken) in
     rw (c .aborted .ensures, k, l, b, absent (pdr % 8), only-read (pdr % 8) (key-small pdr), t)
 
 returns-2 : tie.Need-returns-2
 unfolding rulingOf
 returns-2 c =
-    let pdr = c .before .before .before .before .before .before .before .before .before .before .args .pdr in
-    let write = c .before .before .before .before .before .before .before .before .before .before .args .write in
-    let k = c .before .before .before .before .before .before .before .before .before .right-of .ensures in
-    let b = c .before .before .before .before .before .before .before .block-of .ensures .0 in
-    let l = c .before .before .before .before .before .before .length-error .ensures in
-    let t = rw (k, l, b, absent (pdr % 8), only-read (pdr % 8) (key-small pdr)) at (c .before .before .before .if1 .left) in
-    rw (c .granted .ensures, c .before .condition .ensures, c .before .before .byte-of .ensures .0, k, trapping pdr write, t)
+    let at-byte-of = c .before .before in
+    let at-if1 = at-byte-of .before in
+    let at-length-error = at-if1 .before .before .before in
+    let at-block-of = at-length-error .before in
+    let at-right-of = at-block-of .before .before in
+    let start = at-right-of .before in
+    let pdr = start .args .pdr in
+    let write = start .args .write in
+    let k = at-right-of .right-of .ensures in
+    let b = at-block-of .block-of .ensures .0 in
+    let l = at-length-error .length-error .ensures in
+    let t = rw (k, l, b, absent (pdr % 8), only-read (pdr % 8) (key-small pdr)) at (at-if1 .if1 .left) in
+    rw (c .granted .ensures, c .before .condition .ensures, at-byte-of .byte-of .ensures .0, k, trapping pdr write, t)
 
 pub rule-spec : {M : Type 1} → statement M
 rule-spec =

@@ -22,19 +22,41 @@ returns-2 : tie.Need-returns-2
 returns-2 c = rw (change-step, eq-eqb _ _ (c .before .if1 .left), lt-ltb _ _ (c .if2 .taken))
 
 returns-3 : tie.Need-returns-3
-returns-3 c = rw (change-step, eq-eqb _ _ (c .before .before .before .if1 .left), le-ltb _ _ (c .before .before .if2 .left), good-as _ (toZ-ofZ (c .before .before .before .before .before .fits .amount)) (sym (c .before .good-amount .ensures) ∙ not-true _ (c .if3 .taken)))
+returns-3 c =
+    let at-if2 = c .before .before in
+    let at-if1 = at-if2 .before in
+    let at-fits = at-if1 .before .before in
+    rw (change-step, eq-eqb _ _ (at-if1 .if1 .left), le-ltb _ _ (at-if2 .if2 .left), good-as _ (toZ-ofZ (at-fits .fits .amount)) (sym (c .before .good-amount .ensures) ∙ not-true _ (c .if3 .taken)))
 
 returns-4 : tie.Need-returns-4
-returns-4 c = rw (change-step, eq-eqb _ _ (c .before .before .before .before .before .before .if1 .left), le-ltb _ _ (c .before .before .before .before .before .if2 .left), good-as _ (toZ-ofZ (c .before .before .before .before .before .before .before .before .fits .amount)) (sym (c .before .before .before .before .good-amount .ensures) ∙ not-false _ (c .before .before .before .if3 .left)), sym (c .before .frozen .ensures) ∙ c .if4 .taken)
+returns-4 c =
+    let at-if3 = c .before .before .before in
+    let at-good-amount = at-if3 .before in
+    let at-if2 = at-good-amount .before in
+    let at-if1 = at-if2 .before in
+    let at-fits = at-if1 .before .before in
+    rw (change-step, eq-eqb _ _ (at-if1 .if1 .left), le-ltb _ _ (at-if2 .if2 .left), good-as _ (toZ-ofZ (at-fits .fits .amount)) (sym (at-good-amount .good-amount .ensures) ∙ not-false _ (at-if3 .if3 .left)), sym (c .before .frozen .ensures) ∙ c .if4 .taken)
 
 change-byte-requires : tie.Need-change-byte-requires
-change-byte-requires c κs = (search needs, sym (c .before .before .before .before .before .good-amount .ensures) ∙ not-false _ (c .before .before .before .before .if3 .left))
+change-byte-requires c κs =
+    let at-if3 = c .before .before .before .before in
+    let at-good-amount = at-if3 .before in
+    (search needs, sym (at-good-amount .good-amount .ensures) ∙ not-false _ (at-if3 .if3 .left))
 
 returns-5 : tie.Need-returns-5
 returns-5 c =
-    let byte = c .before .before .before .change-byte .ensures .0 ∙ ap (changeByte (c .before .before .before .before .before .before .before .before .before .before .before .before .before .args .register)) (toZ-ofZ (c .before .before .before .before .before .before .before .before .before .before .before .before .before .fits .amount)) in
-    rw (change-step, eq-eqb _ _ (c .before .before .before .before .before .before .before .before .before .before .before .if1 .left), le-ltb _ _ (c .before .before .before .before .before .before .before .before .before .before .if2 .left), good-as _ (toZ-ofZ (c .before .before .before .before .before .before .before .before .before .before .before .before .before .fits .amount)) (sym (c .before .before .before .before .before .before .before .before .before .good-amount .ensures) ∙ not-false _ (c .before .before .before .before .before .before .before .before .if3 .left)), sym (c .before .before .before .before .before .before .frozen .ensures) ∙ c .before .before .before .before .before .if4 .left, ← byte)
-    (c .before .before .enter .ensures)
+    let at-enter = c .before .before in
+    let at-change-byte = at-enter .before in
+    let at-if4 = at-change-byte .before .before in
+    let at-frozen = at-if4 .before in
+    let at-if3 = at-frozen .before .before in
+    let at-good-amount = at-if3 .before in
+    let at-if2 = at-good-amount .before in
+    let at-if1 = at-if2 .before in
+    let start = at-if1 .before .before in
+    let byte = at-change-byte .change-byte .ensures .0 ∙ ap (changeByte (start .args .register)) (toZ-ofZ (start .fits .amount)) in
+    rw (change-step, eq-eqb _ _ (at-if1 .if1 .left), le-ltb _ _ (at-if2 .if2 .left), good-as _ (toZ-ofZ (start .fits .amount)) (sym (at-good-amount .good-amount .ensures) ∙ not-false _ (at-if3 .if3 .left)), sym (at-frozen .frozen .ensures) ∙ at-if4 .if4 .left, ← byte)
+    (at-enter .enter .ensures)
 
 pub note-change-spec : {M : Type 1} → statement M
 note-change-spec =

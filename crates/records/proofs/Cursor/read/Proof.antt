@@ -22,16 +22,23 @@ body-of-requires c κs = omega (arith, ltb-false, c .before .if2 .left)
 
 returns-3 : tie.Need-returns-3
 returns-3 c =
+    let at-if3 = c .before .before in
+    let at-if2 = at-if3 .before in
+    let at-if1 = at-if2 .before .before in
     sym
-    (at-cut _ _ (c .before .before .before .before .before .if1 .left) (known-within _ (c .before .before .before .if2 .left) (ltb-false 7 _ (c .before .before .if3 .left)))
+    (at-cut _ _ (at-if1 .if1 .left) (known-within _ (at-if2 .if2 .left) (ltb-false 7 _ (at-if3 .if3 .left)))
     (omega (arith, c .before .body-of .ensures .0)))
 
 returns-4 : tie.Need-returns-4
 returns-4 c =
-    let body = c .before .before .body-of .ensures .0 in
+    let at-body-of = c .before .before in
+    let at-if3 = at-body-of .before in
+    let at-if2 = at-if3 .before in
+    let at-if1 = at-if2 .before .before in
+    let body = at-body-of .body-of .ensures .0 in
     rw (c .event-at .ensures, body)
     (sym
-    (at-whole _ _ (c .before .before .before .before .before .before .if1 .left) (known-within _ (c .before .before .before .before .if2 .left) (ltb-false 7 _ (c .before .before .before .if3 .left)))
+    (at-whole _ _ (at-if1 .if1 .left) (known-within _ (at-if2 .if2 .left) (ltb-false 7 _ (at-if3 .if3 .left)))
     (omega (arith, body))))
 
 pub read-spec : {M : Type 1} → statement M

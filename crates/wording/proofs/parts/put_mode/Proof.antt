@@ -8,10 +8,18 @@ returns : tie.Need-returns
 returns c = (rw (eq-eqb _ _ (c .before .before .before .before .before .if1 .taken)) (c .before .before .put .ensures), search needs)
 
 returns-2 : tie.Need-returns-2
-returns-2 c = (rw (ne-eqb _ _ (c .before .before .before .before .before .before .if1 .left), eq-eqb _ _ (c .before .before .before .before .before .if2 .taken)) (c .before .before .put2 .ensures), search needs)
+returns-2 c =
+    let at-put2 = c .before .before in
+    let at-if2 = at-put2 .before .before .before in
+    let at-if1 = at-if2 .before in
+    (rw (ne-eqb _ _ (at-if1 .if1 .left), eq-eqb _ _ (at-if2 .if2 .taken)) (at-put2 .put2 .ensures), search needs)
 
 returns-3 : tie.Need-returns-3
-returns-3 c = (rw (ne-eqb _ _ (c .before .before .before .before .before .before .if1 .left), ne-eqb _ _ (c .before .before .before .before .before .if2 .left)) (c .before .before .put3 .ensures), search needs)
+returns-3 c =
+    let at-put3 = c .before .before in
+    let at-if2 = at-put3 .before .before .before in
+    let at-if1 = at-if2 .before in
+    (rw (ne-eqb _ _ (at-if1 .if1 .left), ne-eqb _ _ (at-if2 .if2 .left)) (at-put3 .put3 .ensures), search needs)
 
 pub put-mode-spec : {M : Type 1} → statement M
 put-mode-spec =

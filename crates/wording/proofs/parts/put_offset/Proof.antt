@@ -6,11 +6,21 @@ use Rattle.wording.proofs.parts.put_offset.Tie as tie
 
 returns : tie.Need-returns
 returns c =
-    (then (rw (c .before .before .before .before .before .before .before .before .before .before .before .before .before .before .before .before .before .before .before .before .before .before .before .tens .ensures) at (c .before .before .before .before .before .before .before .before .before .before .before .before .before .before .before .before .before .before .before .before .before .before .put-char .ensures))
-    (then (rw (c .before .before .before .before .before .before .before .before .before .before .before .before .before .before .before .before .before .before .tens2 .ensures) at (c .before .before .before .before .before .before .before .before .before .before .before .before .before .before .before .before .before .put-char2 .ensures))
-    (then (rw (c .before .before .before .before .before .before .before .before .before .before .before .before .before .tens3 .ensures) at (c .before .before .before .before .before .before .before .before .before .before .before .before .put-char3 .ensures))
-    (then (rw (c .before .before .before .before .before .before .before .before .tens4 .ensures) at (c .before .before .before .before .before .before .before .put-char4 .ensures))
-    (rw (c .before .before .before .tens5 .ensures) at (c .before .before .put-char5 .ensures))))))
+    let at-put-char5 = c .before .before in
+    let at-tens5 = at-put-char5 .before in
+    let at-put-char4 = at-tens5 .before .before .before .before in
+    let at-tens4 = at-put-char4 .before in
+    let at-put-char3 = at-tens4 .before .before .before .before in
+    let at-tens3 = at-put-char3 .before in
+    let at-put-char2 = at-tens3 .before .before .before .before in
+    let at-tens2 = at-put-char2 .before in
+    let at-put-char = at-tens2 .before .before .before .before in
+    let at-tens = at-put-char .before in
+    (then (rw (at-tens .tens .ensures) at (at-put-char .put-char .ensures))
+    (then (rw (at-tens2 .tens2 .ensures) at (at-put-char2 .put-char2 .ensures))
+    (then (rw (at-tens3 .tens3 .ensures) at (at-put-char3 .put-char3 .ensures))
+    (then (rw (at-tens4 .tens4 .ensures) at (at-put-char4 .put-char4 .ensures))
+    (rw (at-tens5 .tens5 .ensures) at (at-put-char5 .put-char5 .ensures))))))
 
 pub put-offset-spec : {M : Type 1} → statement M
 put-offset-spec =

@@ -5,7 +5,11 @@ use Rattle.wording.proofs.parts.put_page.Statement.{statement}
 use Rattle.wording.proofs.parts.put_page.Tie as tie
 
 returns : tie.Need-returns
-returns c = ((then (then (c .before .before .before .before .before .before .before .before .before .before .put-mode .ensures .0) (c .before .before .before .before .before .before .put-set .ensures .0)) (c .before .before .put-char .ensures)), search needs)
+returns c =
+    let at-put-char = c .before .before in
+    let at-put-set = at-put-char .before .before .before .before in
+    let at-put-mode = at-put-set .before .before .before .before in
+    ((then (then (at-put-mode .put-mode .ensures .0) (at-put-set .put-set .ensures .0)) (at-put-char .put-char .ensures)), search needs)
 
 pub put-page-spec : {M : Type 1} → statement M
 put-page-spec =

@@ -5,7 +5,12 @@ use Rattle.wording.proofs.report.put_kept.Statement.{statement}
 use Rattle.wording.proofs.report.put_kept.Tie as tie
 
 returns : tie.Need-returns
-returns c = (rw (c .before .before .before .before .before .before .before .before .before .before .before .before .before .before .before .kept .given .1) (then (c .before .before .before .before .before .before .before .before .before .before .before .put .ensures) (then (c .before .before .before .before .before .before .before .put-offset .ensures) (c .before .before .put2 .ensures))), search needs)
+returns c =
+    let at-put2 = c .before .before in
+    let at-put-offset = at-put2 .before .before .before .before .before in
+    let at-put = at-put-offset .before .before .before .before in
+    let at-kept = at-put .before .before .before .before in
+    (rw (at-kept .kept .given .1) (then (at-put .put .ensures) (then (at-put-offset .put-offset .ensures) (at-put2 .put2 .ensures))), search needs)
 
 returns-2 : tie.Need-returns-2
 returns-2 c = (rw (c .before .before .before .before .before .enum-told .given .1) (c .before .before .put3 .ensures), search needs)

@@ -6,7 +6,15 @@ use Rattle.wording.proofs.report.put_meeting.Statement.{statement}
 use Rattle.wording.proofs.report.put_meeting.Tie as tie
 
 returns : tie.Need-returns
-returns c = ((then (then (then (then (then (then (c .before .before .before .before .before .before .before .before .before .before .before .before .before .before .before .before .before .before .before .before .before .before .before .before .before .before .before .before .before .before .put .ensures) (c .before .before .before .before .before .before .before .before .before .before .before .before .before .before .before .before .before .before .before .before .before .before .before .before .before .put-block .ensures)) (c .before .before .before .before .before .before .before .before .before .before .before .before .before .before .before .before .before .before .before .before .put2 .ensures)) (c .before .before .before .before .before .before .before .before .before .before .before .before .before .before .before .before .put-page .ensures .0)) (c .before .before .before .before .before .before .before .before .before .before .before .put3 .ensures)) (c .before .before .before .before .before .before .before .put-page2 .ensures .0)) (c .before .before .put4 .ensures)), omega (arith, c .before .before .before .before .before .before .before .before .before .before .before .before .before .before .before .before .before .before .before .before .before .before .before .before .before .before .before .before .before .before .put .ensures .next, c .before .before .before .before .before .before .before .before .before .before .before .before .before .before .before .before .before .before .before .before .before .before .before .before .before .put-block .ensures .next, c .before .before .before .before .before .before .before .before .before .before .before .before .before .before .before .before .before .before .before .before .put2 .ensures .next, c .before .before .before .before .before .before .before .before .before .before .before .before .before .before .before .before .put-page .ensures .1, c .before .before .before .before .before .before .before .before .before .before .before .put3 .ensures .next, c .before .before .before .before .before .before .before .put-page2 .ensures .1, c .before .before .put4 .ensures .next))
+returns c =
+    let at-put4 = c .before .before in
+    let at-put-page2 = at-put4 .before .before .before .before .before in
+    let at-put3 = at-put-page2 .before .before .before .before in
+    let at-put-page = at-put3 .before .before .before .before .before in
+    let at-put2 = at-put-page .before .before .before .before in
+    let at-put-block = at-put2 .before .before .before .before .before in
+    let at-put = at-put-block .before .before .before .before .before in
+    ((then (then (then (then (then (then (at-put .put .ensures) (at-put-block .put-block .ensures)) (at-put2 .put2 .ensures)) (at-put-page .put-page .ensures .0)) (at-put3 .put3 .ensures)) (at-put-page2 .put-page2 .ensures .0)) (at-put4 .put4 .ensures)), omega (arith, at-put .put .ensures .next, at-put-block .put-block .ensures .next, at-put2 .put2 .ensures .next, at-put-page .put-page .ensures .1, at-put3 .put3 .ensures .next, at-put-page2 .put-page2 .ensures .1, at-put4 .put4 .ensures .next))
 
 pub put-meeting-spec : {M : Type 1} → statement M
 put-meeting-spec =
