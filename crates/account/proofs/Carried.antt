@@ -65,7 +65,8 @@ module _ (r : List ℕ) where
   fresh-of (Unread u) at l true e = rw e
   fresh-of (Whole v c) at l true e = rw e (same (calm l (v ∷ eventsOf (from (c .at) (step l v .1) .points))))
     where
-      same : (k : Bool) → cond k (From at) (cond (true && k) (From at) (keptOf (from (c .at) (step l v .1)))) ≡ cond (true && k) (From at) (keptOf (from (c .at) (step l v .1)))
+      same : (k : Bool) → cond k (From at) (cond (true && k) (From at) (keptOf (from (c .at) (step l v .1)))) ≡ cond (true && k) (From at)
+          (keptOf (from (c .at) (step l v .1)))
       same true = refl
       same false = refl
 

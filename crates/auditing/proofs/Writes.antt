@@ -42,7 +42,17 @@ high-none a h = at (odd a) refl
     at true e = odd-none a e
     at false e =
         let k = ltb-true 0o777777 a h in
-        rw (← same a, e, ne-eqb (a / 64) 0o7723 (λ q. omega arith), ne-eqb (a / 64) 0o7722 (λ q. omega arith), ne-eqb (a / 64) 0o7776 (λ q. omega arith), ne-eqb a 0o777572 (λ q. omega arith), ne-eqb a 0o777574 (λ q. omega arith), ne-eqb a 0o777576 (λ q. omega arith), ne-eqb a 0o772516 (λ q. omega arith))
+        rw (
+          ← same a,
+          e,
+          ne-eqb (a / 64) 0o7723 (λ q. omega arith),
+          ne-eqb (a / 64) 0o7722 (λ q. omega arith),
+          ne-eqb (a / 64) 0o7776 (λ q. omega arith),
+          ne-eqb a 0o777572 (λ q. omega arith),
+          ne-eqb a 0o777574 (λ q. omega arith),
+          ne-eqb a 0o777576 (λ q. omega arith),
+          ne-eqb a 0o772516 (λ q. omega arith),
+        )
 
 -- h, o, g: a high address, an odd one, a register's
 by-tests : (h o g : Bool) → (h ≡ true → g ≡ false) → (o ≡ true → g ≡ false)
@@ -73,7 +83,13 @@ module _ (l : List ℕ) (whole : length l ≡ 100) where
           → relocates (word (writtenAt l place v) SR0) ≡ leftOn (word l SR0) place v
       at true d z t e f g h =
           let k = ltb-true place 48 e in
-          rw (e, ne-eqb place SR0 (λ q. omega arith), getD-set-other (set l place (bitAnd v 0o007777)) (PDR place) SR0 (bitAnd (word l (PDR place)) 0o177477) 0 (λ q. omega arith), getD-set-other l place SR0 (bitAnd v 0o007777) 0 (λ q. omega arith))
+          rw (
+            e,
+            ne-eqb place SR0 (λ q. omega arith),
+            getD-set-other (set l place (bitAnd v 0o007777)) (PDR place) SR0
+                (bitAnd (word l (PDR place)) 0o177477) 0 (λ q. omega arith),
+            getD-set-other l place SR0 (bitAnd v 0o007777) 0 (λ q. omega arith),
+          )
       at false true z t e f g h =
           let k = ltb-true place 96 f in
           rw (e, f, ne-eqb place SR0 (λ q. omega arith), getD-set-other l place SR0 (bitAnd v 0o077417) 0 (λ q. omega arith))
@@ -117,7 +133,8 @@ unfolding verdictOf placeVerdict
 write-verdict l whole a v = rw (eq-eqb (length l) 100 whole, accepted-write l whole a v) (at (isRegister a) refl)
   where
     at : (g : Bool) → isRegister a ≡ g
-        → cond (isRegister a) (firstBroken (premises l (Write a v)) reasons) Permitted ≡ cond (isRegister a) (placeVerdict l (registerAt a) v) Permitted
+        → cond (isRegister a) (firstBroken (premises l (Write a v)) reasons) Permitted ≡ cond (isRegister a)
+        (placeVerdict l (registerAt a) v) Permitted
     at true e =
         let place = registerAt a in
         let old = word l place in

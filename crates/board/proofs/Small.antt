@@ -43,7 +43,8 @@ lowest-below : (cs : Conditions) → numbered cs ≡ true → lowest cs < 14
 unfolding numbered
 lowest-below [] h = omega arith
 lowest-below (c ∷ cs) h =
-    below (c .1) (c .0) (lowest cs) (ltb-true (c .0) 14 (and-l (ltb (c .0) 14) (numbered cs) h)) (lowest-below cs (and-r (ltb (c .0) 14) (numbered cs) h))
+    below (c .1) (c .0) (lowest cs) (ltb-true (c .0) 14 (and-l (ltb (c .0) 14) (numbered cs) h))
+    (lowest-below cs (and-r (ltb (c .0) 14) (numbered cs) h))
 
 all-numbered : (l : List ℕ) (e : Event) → numbered (conditions l e) ≡ true
 unfolding numbered

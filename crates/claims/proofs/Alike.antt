@@ -20,7 +20,8 @@ use Rattle.claims.specs.Unimplemented.{Alike}
 use Rattle.rules.proofs.Masks.{Same, same-or, same-and, same-field, same-low}
 
 -- a word stored at one place in both
-at-place : (l m : List ℕ) (p v w : ℕ) → Alike l m → Same (implemented p) v w → (x : Bool) → ltb p (length l) ≡ x → readAt (set l p v) p ≡ readAt (set m p w) p
+at-place : (l m : List ℕ) (p v w : ℕ) → Alike l m → Same (implemented p) v w → (x : Bool) → ltb p (length l) ≡ x
+    → readAt (set l p v) p ≡ readAt (set m p w) p
 at-place l m p v w a h true e =
     let i = ltb-true p (length l) e in
     let n = a .long in
@@ -30,7 +31,8 @@ at-place l m p v w a h false e =
     let n = a .long in
     rw (set-out l p v i, set-out m p w (omega arith)) (a .same p)
 
-by-place : (l m : List ℕ) (p v w i : ℕ) → Alike l m → Same (implemented p) v w → (x : Bool) → eqb i p ≡ x → readAt (set l p v) i ≡ readAt (set m p w) i
+by-place : (l m : List ℕ) (p v w i : ℕ) → Alike l m → Same (implemented p) v w → (x : Bool) → eqb i p ≡ x
+    → readAt (set l p v) i ≡ readAt (set m p w) i
 by-place l m p v w i a h true e = rw (eqb-true i p e) (at-place l m p v w a h (ltb p (length l)) refl)
 by-place l m p v w i a h false e =
     rw (getD-set-other l p i v 0 (eqb-false i p e), getD-set-other m p i w 0 (eqb-false i p e)) (a .same i)

@@ -104,7 +104,8 @@ granted-back l r h byte trap a =
 
 aborted-there : (l : List ℕ) (r : Reference) → Relocated l r → (n e o : Bool) → step l (Refer r) .0 ≡ A n e o → Barred l r n e o
 aborted-there l r h n e o g =
-    let q = abort-there (eqb (r .mode) 2) (nonResidentFlag (pdrFor l r)) (lengthError (pdrFor l r) (blockOf (r .va))) (readOnlyFlag (pdrFor l r) (writing r))
+    let q = abort-there (eqb (r .mode) 2) (nonResidentFlag (pdrFor l r)) (lengthError (pdrFor l r) (blockOf (r .va)))
+    (readOnlyFlag (pdrFor l r) (writing r))
     (byteOf (parFor l r) (r .va)) (traps (word l SR0) (pdrFor l r) (writing r)) n e o (sym (answer-is l r h) ∙ g) in
     record { absent = q .0; beyond = q .1 .0; unwritable = q .1 .1 .0; flagged = q .1 .1 .1 }
 

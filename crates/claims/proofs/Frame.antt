@@ -89,11 +89,14 @@ write-stays l p v i false e h =
 accepted-stays : (l : List ℕ) (e : Event) (i : ℕ) → named l e i ≡ false → word (accepted l e .1) i ≡ word l i
 unfolding accepted
 accepted-stays l (Refer r) i h =
-    refer-stays l r i (eqb-false i SR0 (or-l (eqb i SR0) (eqb i (PDR (pageFor l r))) h)) (eqb-false i (PDR (pageFor l r)) (or-r (eqb i SR0) (eqb i (PDR (pageFor l r))) h))
+    refer-stays l r i (eqb-false i SR0 (or-l (eqb i SR0) (eqb i (PDR (pageFor l r))) h))
+    (eqb-false i (PDR (pageFor l r)) (or-r (eqb i SR0) (eqb i (PDR (pageFor l r))) h))
 accepted-stays l (Read address) i h = refl
 accepted-stays l (Write address value) i h = write-stays l (registerAt address) value i (eqb i (registerAt address)) refl h
-accepted-stays l (Instruction va) i h = start-stays l va i (eqb-false i SR1 (or-l (eqb i SR1) (eqb i SR2) h)) (eqb-false i SR2 (or-r (eqb i SR1) (eqb i SR2) h))
-accepted-stays l (Interrupt vector) i h = start-stays l vector i (eqb-false i SR1 (or-l (eqb i SR1) (eqb i SR2) h)) (eqb-false i SR2 (or-r (eqb i SR1) (eqb i SR2) h))
+accepted-stays l (Instruction va) i h = start-stays l va i (eqb-false i SR1 (or-l (eqb i SR1) (eqb i SR2) h))
+    (eqb-false i SR2 (or-r (eqb i SR1) (eqb i SR2) h))
+accepted-stays l (Interrupt vector) i h = start-stays l vector i (eqb-false i SR1 (or-l (eqb i SR1) (eqb i SR2) h))
+    (eqb-false i SR2 (or-r (eqb i SR1) (eqb i SR2) h))
 accepted-stays l (Change register amount) i h = change-stays l _ i (eqb-false i SR1 h)
 accepted-stays l Init i h =
     let a = or-l (eqb i SR0 || eqb i SR1 || eqb i SR2) (eqb i SR3) h in

@@ -83,7 +83,8 @@ by-length : (l : List ℕ) (r : Reference) (x : Bool) → eqb (length l) 100 ≡
 unfolding step accepted q
 by-length l r true e =
     rw (cond-last, cond-getD)
-    (either (eqb (refusalOf l (Refer r)) 0) (word (referred l r .1) (PDR (pageFor l r))) (pdrFor l r) (pdrFor l r) (referred-marks l r (eqb-true (length l) 100 e)) (unmarked (pdrFor l r)))
+    (either (eqb (refusalOf l (Refer r)) 0) (word (referred l r .1) (PDR (pageFor l r))) (pdrFor l r) (pdrFor l r)
+    (referred-marks l r (eqb-true (length l) 100 e)) (unmarked (pdrFor l r)))
 by-length l r false e = rw (other-length l r e) (unmarked (pdrFor l r))
 
 pub marks : OnlyMarks

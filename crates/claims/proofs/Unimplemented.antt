@@ -15,7 +15,24 @@ use Rattle.rules.specs.Keys.{keyOf}
 use Rattle.rules.specs.Words.{word, PDR, SR0, SR1, SR2, SR3, implemented, relocates, frozen, enablesD}
 use Rattle.rules.specs.Paper.{R}
 use Rattle.rules.specs.Addresses.{registerAt}
-use Rattle.rules.specs.References.{usesD, placeOf, nonResidentFlag, readOnlyFlag, aborts, condition, traps, marksOf, abortFlags, trapFlag, details, sr0After, ruled, examined, illegalMode, referred}
+use Rattle.rules.specs.References.{
+  usesD,
+  placeOf,
+  nonResidentFlag,
+  readOnlyFlag,
+  aborts,
+  condition,
+  traps,
+  marksOf,
+  abortFlags,
+  trapFlag,
+  details,
+  sr0After,
+  ruled,
+  examined,
+  illegalMode,
+  referred,
+}
 use Rattle.rules.specs.Registers.{readAt, writtenAt}
 use Rattle.rules.specs.Others.{started, withChange, changeByte, noted, cleared}
 use Rattle.rules.specs.Refusals.{refusalOf}
@@ -28,7 +45,20 @@ use Rattle.claims.specs.Unimplemented.{Alike, Unimplemented}
 use Rattle.rules.proofs.Bools.{cond-first, cond-last}
 use Rattle.claims.proofs.Marks.{before-status}
 use Rattle.rules.proofs.Masks.{Same, same-or, same-and, same-low}
-use Rattle.claims.proofs.Alike.{set-alike, cond-alike, pdr-same, base-same, key-same, length-same, sr0-same, on-same, enabled-same, frozen-same, enables-same, used-same}
+use Rattle.claims.proofs.Alike.{
+  set-alike,
+  cond-alike,
+  pdr-same,
+  base-same,
+  key-same,
+  length-same,
+  sr0-same,
+  on-same,
+  enabled-same,
+  frozen-same,
+  enables-same,
+  used-same,
+}
 
 -- SR0 afterwards, by the two tests
 sr0-by : (none ice : Bool) (x y flags loaded : ℕ) → Same 0o171777 x y
@@ -60,7 +90,8 @@ module _ (l m : List ℕ) (a : Alike l m) where
   in-pdr page small x y h = rw (le-ltb (48 + page) 48 (omega arith), lt-ltb (48 + page) 96 (omega arith)) h
 
   granted-alike : (page marks flags loaded : ℕ) → page < 48
-      → Alike (set (marked l page marks) SR0 (sr0After (word l SR0) flags loaded)) (set (marked m page marks) SR0 (sr0After (word m SR0) flags loaded))
+      → Alike (set (marked l page marks) SR0 (sr0After (word l SR0) flags loaded))
+      (set (marked m page marks) SR0 (sr0After (word m SR0) flags loaded))
   granted-alike page marks flags loaded small =
       set-alike (marked l page marks) (marked m page marks) SR0 (sr0After (word l SR0) flags loaded) (sr0After (word m SR0) flags loaded)
       (set-alike l m (PDR page) (bitOr (word l (PDR page)) marks) (bitOr (word m (PDR page)) marks) a
@@ -89,7 +120,8 @@ module _ (l m : List ℕ) (a : Alike l m) where
         rw (key-same l m a page small, length-same l m a page small (blockOf va), base-same l m a page small, enabled-same l m a)
         (simp cond-last
         (cond-alike (n || e || o) (flagged l f loaded) (set (marked l page k) SR0 (sr0After (word l SR0) t loaded))
-        (flagged m f loaded) (set (marked m page k) SR0 (sr0After (word m SR0) t loaded)) (flagged-alike f loaded) (granted-alike page k t loaded small)))
+        (flagged m f loaded) (set (marked m page k) SR0 (sr0After (word m SR0) t loaded)) (flagged-alike f loaded)
+        (granted-alike page k t loaded small)))
 
   page-same : (r : Reference) → pageFor l r ≡ pageFor m r
   page-same r = rw (enables-same l m a (r .mode))
@@ -119,7 +151,8 @@ module _ (l m : List ℕ) (a : Alike l m) where
       let d = details (r .phase) 2 false (r .va) in
       rw (on-same l m a)
       (simp cond-last
-      (cond-alike (relocates (word m SR0)) (cond (eqb (r .mode) 2) (flagged l f d) (examined l r .1)) l (cond (eqb (r .mode) 2) (flagged m f d) (examined m r .1)) m
+      (cond-alike (relocates (word m SR0)) (cond (eqb (r .mode) 2) (flagged l f d) (examined l r .1)) l
+      (cond (eqb (r .mode) 2) (flagged m f d) (examined m r .1)) m
       (cond-alike (eqb (r .mode) 2) (flagged l f d) (examined l r .1) (flagged m f d) (examined m r .1) (flagged-alike f d) (examined-store r))
       a))
 
@@ -128,7 +161,8 @@ module _ (l m : List ℕ) (a : Alike l m) where
   value-alike p v = set-alike l m p v v a refl
 
   par-write : (p v : ℕ) (x : Bool) (k n : List ℕ) → ltb p 48 ≡ x → Alike k n
-      → Alike (cond x (set (set l p v) (PDR p) (bitAnd (word l (PDR p)) 0o177477)) k) (cond x (set (set m p v) (PDR p) (bitAnd (word m (PDR p)) 0o177477)) n)
+      → Alike (cond x (set (set l p v) (PDR p) (bitAnd (word l (PDR p)) 0o177477)) k)
+      (cond x (set (set m p v) (PDR p) (bitAnd (word m (PDR p)) 0o177477)) n)
   par-write p v true k n e h =
       let small = ltb-true p 48 e in
       set-alike (set l p v) (set m p v) (PDR p) (bitAnd (word l (PDR p)) 0o177477) (bitAnd (word m (PDR p)) 0o177477) (value-alike p v)

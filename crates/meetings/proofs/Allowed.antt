@@ -38,7 +38,8 @@ module _ (par pdr block : ℕ) where
   abbrev at : ℕ → Bool
   at b = eqb (memoryBlock par b) block
 
-  into-range : some (onPage par pdr block) 0 128 ≡ true → nonResident (keyOf pdr) ≡ false → some at (firstBlock pdr) (endBlock pdr - firstBlock pdr) ≡ true
+  into-range : some (onPage par pdr block) 0 128 ≡ true → nonResident (keyOf pdr) ≡ false
+      → some at (firstBlock pdr) (endBlock pdr - firstBlock pdr) ≡ true
   unfolding lengthError
   into-range t n =
       let s = some-found (onPage par pdr block) 0 128 t in
@@ -48,7 +49,8 @@ module _ (par pdr block : ℕ) where
       let z = range-small pdr in
       some-holds at (firstBlock pdr) (endBlock pdr - firstBlock pdr) (s .0) (r .0) (omega (arith, r .1, z .0)) (k .1)
 
-  out-of-range : nonResident (keyOf pdr) ≡ false → some at (firstBlock pdr) (endBlock pdr - firstBlock pdr) ≡ true → some (onPage par pdr block) 0 128 ≡ true
+  out-of-range : nonResident (keyOf pdr) ≡ false → some at (firstBlock pdr) (endBlock pdr - firstBlock pdr) ≡ true
+      → some (onPage par pdr block) 0 128 ≡ true
   unfolding lengthError
   out-of-range n t =
       let s = some-found at (firstBlock pdr) (endBlock pdr - firstBlock pdr) t in
@@ -73,7 +75,8 @@ module _ (par pdr block : ℕ) where
 pub by-range : (l : List ℕ) (block page : ℕ)
     → pageReaches l block page
     ≡ cond (nonResident (keyOf (word l (PDR page)))) false
-    (some (λ b. eqb (memoryBlock (word l page) b) block) (firstBlock (word l (PDR page))) (endBlock (word l (PDR page)) - firstBlock (word l (PDR page))))
+    (some (λ b. eqb (memoryBlock (word l page) b) block) (firstBlock (word l (PDR page)))
+    (endBlock (word l (PDR page)) - firstBlock (word l (PDR page))))
 unfolding pageReaches
 by-range l block page = by (nonResident (keyOf pdr)) refl
   where

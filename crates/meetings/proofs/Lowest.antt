@@ -86,7 +86,8 @@ module _ (l : List ℕ) where
 
       lowest-block : firstOf (shared l) 0 4096 ≡ k
       lowest-block =
-          first-is (shared l) 0 4096 k (omega arith) (omega (arith, t .high)) (λ x a b. free x b (shared l x) refl) (λ h. taken (omega arith) (shared l k) refl)
+          first-is (shared l) 0 4096 k (omega arith) (omega (arith, t .high)) (λ x a b. free x b (shared l x) refl)
+          (λ h. taken (omega arith) (shared l k) refl)
 
       by : (b : Bool) → ltb k 4096 ≡ b → cond (ltb k 4096) (Shared m) Apart ≡ cond (ltb k 4096) (Shared (meetingAt l k)) Apart
       by true e =

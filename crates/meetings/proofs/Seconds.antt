@@ -140,7 +140,8 @@ module _ (l : List ℕ) (x : ℕ) where
     where
       at : (a b : Bool) → reached 0 ≡ a → reached 1 ≡ b
           → passing l x 32 (pages 3) (passing l x 16 (pages 1) (cond (reached 0) (low 0, 48) (48, 48))) ≡ twoOf (reached 0) (reached 1) (reached 3)
-      at true b e f = let p = low-in 0 0 refl e in rw (e, other-mode 1 1 (low 0) refl (omega arith) (λ z. omega arith) (λ z. omega arith)) (next b f p)
+      at true b e f = let p = low-in 0 0 refl e in rw (e, other-mode 1 1 (low 0) refl (omega arith) (λ z. omega arith) (λ z. omega arith))
+          (next b f p)
         where
           next : (b : Bool) → reached 1 ≡ b → low 0 / 16 ≡ 0
               → passing l x 32 (pages 3) (low 0, cond (reached 1) (low 1) 48) ≡ (low 0, cond (reached 1) (low 1) (cond (reached 3) (low 3) 48))

@@ -7,7 +7,21 @@ use Rattle.rules.specs.Paper.{Paper, G, A, R, D, X, number, paper, Paper
 use Rattle.rules.specs.declared.Answer.{Answer}
 use Rattle.rules.specs.declared.Answer.the-variants.{Granted, Aborted, Word, Done, Refused}
 use Rattle.rules.specs.declared.Refusal.{Refusal}
-use Rattle.rules.specs.declared.Refusal.the-variants.{Store, Mode, Space, Access, Phase, High, Odd, NoRegister, BadChange, Full, Kind, Cut, Long}
+use Rattle.rules.specs.declared.Refusal.the-variants.{
+  Store,
+  Mode,
+  Space,
+  Access,
+  Phase,
+  High,
+  Odd,
+  NoRegister,
+  BadChange,
+  Full,
+  Kind,
+  Cut,
+  Long,
+}
 
 numbered : ℕ → Refusal
 numbered n =

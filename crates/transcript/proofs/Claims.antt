@@ -50,7 +50,8 @@ taken : (r : List ℕ) (p : Place) (l : List ℕ) (ts : List Turn) (room : ℕ) 
 unfolding fitting rest turnsFrom
 taken r p l [] room c = record { from = refl; chained = tt; text = refl; store = refl; fewer = omega arith }
 taken r p l (t ∷ ts) room c =
-    taken-one (leb (length (t .line)) room) r p l t ts (rest (room - length (t .line)) ts) (fitting (room - length (t .line)) (t .place) (t .store) ts) c
+    taken-one (leb (length (t .line)) room) r p l t ts (rest (room - length (t .line)) ts)
+    (fitting (room - length (t .line)) (t .place) (t .store) ts) c
     (taken r (t .place) (t .store) ts (room - length (t .line)) (c .1))
 
 pub together : Together

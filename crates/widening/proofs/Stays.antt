@@ -14,7 +14,24 @@ use Rattle.page.specs.Length.{lengthError}
 use Rattle.page.specs.Sum.{byteOf}
 use Rattle.rules.specs.Paper.{Paper}
 use Rattle.rules.specs.Words.{word, PDR, SR0, SR1, SR2, SR3, relocates, frozen}
-use Rattle.rules.specs.References.{referred, illegalMode, examined, ruled, placeOf, usesD, details, nonResidentFlag, readOnlyFlag, aborts, condition, traps, marksOf, abortFlags, trapFlag, sr0After}
+use Rattle.rules.specs.References.{
+  referred,
+  illegalMode,
+  examined,
+  ruled,
+  placeOf,
+  usesD,
+  details,
+  nonResidentFlag,
+  readOnlyFlag,
+  aborts,
+  condition,
+  traps,
+  marksOf,
+  abortFlags,
+  trapFlag,
+  sr0After,
+}
 use Rattle.rules.specs.Others.{started, noted, withChange}
 use Rattle.rules.specs.declared.Reference.{Reference}
 use Rattle.rules.proofs.Bools.{cond-last, place-small}

@@ -125,7 +125,8 @@ module _ (l : List ℕ) (whole : length l ≡ 100) where
       at-pdr : (x : Bool) → ltb place 96 ≡ x → ltb place 48 ≡ false → Wider l (writtenAt l place value)
       at-pdr true e a =
           let s : place ≡ PDR (place - 48) = omega (arith, ltb-false place 48 a) in
-          rw (a, e) (rw (← s) at (pdr-wider (place - 48) value (omega (arith, ltb-true place 96 e, ltb-false place 48 a)) (rw (← s) (rw (a, e) at w))))
+          rw (a, e) (rw (← s) at (pdr-wider (place - 48) value (omega (arith, ltb-true place 96 e, ltb-false place 48 a))
+          (rw (← s) (rw (a, e) at w))))
       at-pdr false e a = at-sr0 (eqb place SR0) refl a e
 
       at-par : (x : Bool) → ltb place 48 ≡ x → Wider l (writtenAt l place value)

@@ -15,4 +15,5 @@ returns-3 c = rw (c .before .enum-told3 .given .1) (c .fresh2 .ensures)
 pub kept-after-spec : {M : Type 1} → statement M
 kept-after-spec =
     tie.close
-    (tie.spec (λ c. search needs) (λ c κs. search needs) (λ c. search needs) (λ c κs. search needs) (λ c. search needs) (λ c κs. search needs) returns returns-2 returns-3)
+    (tie.spec (λ c. search needs) (λ c κs. search needs) (λ c. search needs) (λ c κs. search needs) (λ c. search needs)
+    (λ c κs. search needs) returns returns-2 returns-3)

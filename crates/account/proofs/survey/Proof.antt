@@ -23,8 +23,13 @@ abbrev μ-loop : tie.MeasureT-loop
 
 loop-holds : tie.Need-loop-holds Inv-loop μ-loop
 loop-holds c =
-    let a = c .before .before .before .before .args in
-    (c .before .before .before .before .pre, (rw (c .fresh .ensures) (begin-sound (a .s .now) 0), rw (c .fresh .ensures) (begin (a .recording .now) (a .s .now))))
+    let a = c .before .before .before .before .args in (
+      c .before .before .before .before .pre,
+      (
+        rw (c .fresh .ensures) (begin-sound (a .s .now) 0),
+        rw (c .fresh .ensures) (begin (a .recording .now) (a .s .now)),
+      ),
+    )
 
 returns : tie.Need-returns Inv-loop μ-loop
 returns c =

@@ -16,7 +16,12 @@ returns-3 c =
     let at-if2 = c .before .before in
     let at-if1 = at-if2 .before in
     let at-absent = at-if1 .before in
-    rw (sym (at-absent .absent .ensures) ∙ at-if1 .if1 .left, eq-eqb _ _ (at-if2 .if2 .left), sym (c .before .keeps-blocks .ensures) ∙ not-true _ (c .if3 .taken))
+    rw (
+      sym (at-absent .absent .ensures) ∙ at-if1 .if1 .left,
+      eq-eqb _ _ (at-if2 .if2 .left),
+      sym (c .before .keeps-blocks .ensures)
+          ∙ not-true _ (c .if3 .taken),
+    )
 
 returns-4 : tie.Need-returns-4
 returns-4 c =
@@ -25,7 +30,12 @@ returns-4 c =
     let at-if2 = at-keeps-blocks .before in
     let at-if1 = at-if2 .before in
     let at-absent = at-if1 .before in
-    rw (sym (c .before .keeps-rights .ensures) ∙ not-true _ (c .if4 .taken), sym (at-absent .absent .ensures) ∙ at-if1 .if1 .left, eq-eqb _ _ (at-if2 .if2 .left), sym (at-keeps-blocks .keeps-blocks .ensures) ∙ not-false _ (at-if3 .if3 .left))
+    rw (
+      sym (c .before .keeps-rights .ensures) ∙ not-true _ (c .if4 .taken),
+      sym (at-absent .absent .ensures) ∙ at-if1 .if1 .left,
+      eq-eqb _ _ (at-if2 .if2 .left),
+      sym (at-keeps-blocks .keeps-blocks .ensures) ∙ not-false _ (at-if3 .if3 .left),
+    )
 
 returns-5 : tie.Need-returns-5
 returns-5 c =
@@ -34,7 +44,12 @@ returns-5 c =
     let at-if2 = at-keeps-blocks .before in
     let at-if1 = at-if2 .before in
     let at-absent = at-if1 .before in
-    rw (sym (c .before .keeps-rights .ensures) ∙ not-false _ (c .if4 .left), sym (at-absent .absent .ensures) ∙ at-if1 .if1 .left, eq-eqb _ _ (at-if2 .if2 .left), sym (at-keeps-blocks .keeps-blocks .ensures) ∙ not-false _ (at-if3 .if3 .left))
+    rw (
+      sym (c .before .keeps-rights .ensures) ∙ not-false _ (c .if4 .left),
+      sym (at-absent .absent .ensures) ∙ at-if1 .if1 .left,
+      eq-eqb _ _ (at-if2 .if2 .left),
+      sym (at-keeps-blocks .keeps-blocks .ensures) ∙ not-false _ (at-if3 .if3 .left),
+    )
 
 pub judge-pdr-spec : {M : Type 1} → statement M
 judge-pdr-spec =

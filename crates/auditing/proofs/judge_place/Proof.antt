@@ -32,7 +32,12 @@ returns-4 c =
     let at-if2 = at-if3 .before in
     let at-left-on = at-if2 .before in
     let at-if1 = at-left-on .before .before in
-    rw (ne-eqb _ _ (at-if1 .if1 .left), sym (at-left-on .left-on .ensures) ∙ not-false _ (at-if2 .if2 .left), le-ltb _ _ (at-if3 .if3 .left), lt-ltb _ _ (at-if4 .if4 .taken))
+    rw (
+      ne-eqb _ _ (at-if1 .if1 .left),
+      sym (at-left-on .left-on .ensures) ∙ not-false _ (at-if2 .if2 .left),
+      le-ltb _ _ (at-if3 .if3 .left),
+      lt-ltb _ _ (at-if4 .if4 .taken),
+    )
     (c .judge-pdr .ensures)
 
 returns-5 : tie.Need-returns-5
@@ -41,7 +46,12 @@ returns-5 c =
     let at-if2 = c .before .before in
     let at-left-on = at-if2 .before in
     let at-if1 = at-left-on .before .before in
-    rw (ne-eqb _ _ (at-if1 .if1 .left), sym (at-left-on .left-on .ensures) ∙ not-false _ (at-if2 .if2 .left), le-ltb _ _ (c .before .if3 .left), le-ltb _ _ (c .if4 .left))
+    rw (
+      ne-eqb _ _ (at-if1 .if1 .left),
+      sym (at-left-on .left-on .ensures) ∙ not-false _ (at-if2 .if2 .left),
+      le-ltb _ _ (c .before .if3 .left),
+      le-ltb _ _ (c .if4 .left),
+    )
 
 pub judge-place-spec : {M : Type 1} → statement M
 judge-place-spec =

@@ -14,7 +14,12 @@ returns : tie.Need-returns
 returns c = rw (c .before .before .a .given .1, ← c .bit .ensures .0)
 
 returns-2 : tie.Need-returns-2
-returns-2 c = rw (c .before .before .before .before .a2 .given .1, ← c .before .before .bit2 .ensures .0, ← c .before .bit3 .ensures .0, ← c .bit4 .ensures .0)
+returns-2 c = rw (
+  c .before .before .before .before .a2 .given .1,
+  ← c .before .before .bit2 .ensures .0,
+  ← c .before .bit3 .ensures .0,
+  ← c .bit4 .ensures .0,
+)
 
 returns-3 : tie.Need-returns-3
 returns-3 c = rw (c .before .a3 .given .1)

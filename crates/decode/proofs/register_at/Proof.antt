@@ -16,11 +16,21 @@ returns-2 c =
     let at-first-page = c .before .before in
     let at-if1 = at-first-page .before in
     let start = at-if1 .before in
-    rw (← same (start .args .address), ← at-first-page .first-page .ensures .0, ne-eqb _ _ (at-if1 .if1 .left), eq-eqb _ _ (c .before .if2 .taken)) (c .status-at .ensures)
+    rw (
+      ← same (start .args .address),
+      ← at-first-page .first-page .ensures .0,
+      ne-eqb _ _ (at-if1 .if1 .left),
+      eq-eqb _ _ (c .before .if2 .taken),
+    ) (c .status-at .ensures)
 
 returns-3 : tie.Need-returns-3
 unfolding byPart
-returns-3 c = rw (← same (c .before .before .before .args .address), ← c .before .first-page .ensures .0, ne-eqb _ _ (c .before .before .if1 .left), ne-eqb _ _ (c .if2 .left))
+returns-3 c = rw (
+  ← same (c .before .before .before .args .address),
+  ← c .before .first-page .ensures .0,
+  ne-eqb _ _ (c .before .before .if1 .left),
+  ne-eqb _ _ (c .if2 .left),
+)
 
 pub register-at-spec : {M : Type 1} → statement M
 register-at-spec =

@@ -23,7 +23,12 @@ returns-4 c = rw (c .if4 .taken)
 
 returns-5 : tie.Need-returns-5
 unfolding statusAt
-returns-5 c = rw (ne-eqb _ _ (c .before .before .before .if1 .left), ne-eqb _ _ (c .before .before .if2 .left), ne-eqb _ _ (c .before .if3 .left), ne-eqb _ _ (c .if4 .left))
+returns-5 c = rw (
+  ne-eqb _ _ (c .before .before .before .if1 .left),
+  ne-eqb _ _ (c .before .before .if2 .left),
+  ne-eqb _ _ (c .before .if3 .left),
+  ne-eqb _ _ (c .if4 .left),
+)
 
 pub status-at-spec : {M : Type 1} → statement M
 status-at-spec = tie.close (tie.spec returns returns-2 returns-3 returns-4 returns-5)

@@ -29,7 +29,19 @@ returns c =
     let at-octal-digit = at-octal-digit2 .before in
     let start = at-octal-digit .before .before in
     let at = start .args .at in
-    rw (place 1 at, place 2 at, place 3 at, place 4 at, place 5 at, at-octal-digit .octal-digit .ensures, at-octal-digit2 .octal-digit2 .ensures, at-octal-digit3 .octal-digit3 .ensures, at-octal-digit4 .octal-digit4 .ensures, c .before .octal-digit5 .ensures, c .octal-digit6 .ensures)
+    rw (
+      place 1 at,
+      place 2 at,
+      place 3 at,
+      place 4 at,
+      place 5 at,
+      at-octal-digit .octal-digit .ensures,
+      at-octal-digit2 .octal-digit2 .ensures,
+      at-octal-digit3 .octal-digit3 .ensures,
+      at-octal-digit4 .octal-digit4 .ensures,
+      c .before .octal-digit5 .ensures,
+      c .octal-digit6 .ensures,
+    )
 
 pub put-octal-spec : {M : Type 1} → statement M
 put-octal-spec =

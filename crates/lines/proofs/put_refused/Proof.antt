@@ -21,7 +21,14 @@ slice-write-out-5 c = simp length-set (omega arith)
 
 returns : tie.Need-returns
 unfolding lineOf
-returns c = let at = c .before .before .before .args .at in rw (place 1 at, place 2 at, place 3 at, place 4 at, c .before .decimal-digit .ensures, c .decimal-digit2 .ensures)
+returns c = let at = c .before .before .before .args .at in rw (
+  place 1 at,
+  place 2 at,
+  place 3 at,
+  place 4 at,
+  c .before .decimal-digit .ensures,
+  c .decimal-digit2 .ensures,
+)
 
 pub put-refused-spec : {M : Type 1} → statement M
 put-refused-spec =

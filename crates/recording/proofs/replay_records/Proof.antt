@@ -13,7 +13,8 @@ use Rattle.recording.proofs.replay_records.Tie as tie
 
 abbrev Inv-loop : tie.InvT-loop
 Inv-loop s₀ recording start out₀ spare₀ at₀ written₀ s out spare at written =
-    (length s ≡ 100) × ((length spare ≡ 100) × Reached (ahead recording start s₀ (length out₀)) out₀ out written (ahead recording at s (length out - written)))
+    (length s ≡ 100) × ((length spare ≡ 100) × Reached (ahead recording start s₀ (length out₀)) out₀ out written
+    (ahead recording at s (length out - written)))
 
 abbrev μ-loop : tie.MeasureT-loop
 μ-loop s₀ recording start out₀ spare₀ at₀ written₀ s out spare at written = length recording - at

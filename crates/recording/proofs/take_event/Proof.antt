@@ -25,11 +25,25 @@ module _ (l : List ℕ) (e : Event) (out : List ℕ) (n : ℕ) (w : n ≤ length
       → (k, cond (eqb k 0) (cond (ltb (length out - n) longest) l spare) l', out') ≡ taken l e out n
   unfolding taken
   by-room true p l' spare k out' h q u =
-      let z : k ≡ length (lineOf p) = ap (λ (y : ℕ × List ℕ). y .0) (u ∙ fits out n (lineOf p) (omega (arith, leb-true (length (lineOf p)) (length out - n) h, w))) in
+      let z : k ≡ length (lineOf p) = ap (λ (y : ℕ × List ℕ). y .0) (u ∙ fits out n (lineOf p) (omega (
+        arith,
+        leb-true (length (lineOf p)) (length out - n) h,
+        w,
+      ))) in
       rw (← q, h, ← u, ne-eqb k 0 (λ e. omega (arith, some p, z, e)))
   by-room false p l' spare k out' h q u =
-      let v : _≡_ {A = ℕ × List ℕ} (k, out') (0, out) = u ∙ unfit out n (lineOf p) (omega (arith, leb-false (length (lineOf p)) (length out - n) h, w)) in
-      rw (← q, h, ap (λ (y : ℕ × List ℕ). y .0) v, ap (λ (y : ℕ × List ℕ). y .1) v, lt-ltb (length out - n) longest (omega (arith, leb-false (length (lineOf p)) (length out - n) h, most p)))
+      let v : _≡_ {A = ℕ × List ℕ} (k, out') (0, out) = u ∙ unfit out n (lineOf p) (omega (
+        arith,
+        leb-false (length (lineOf p)) (length out - n) h,
+        w,
+      )) in
+      rw (
+        ← q,
+        h,
+        ap (λ (y : ℕ × List ℕ). y .0) v,
+        ap (λ (y : ℕ × List ℕ). y .1) v,
+        lt-ltb (length out - n) longest (omega (arith, leb-false (length (lineOf p)) (length out - n) h, most p)),
+      )
 
   taking : (p : Paper) (l' spare spare' : List ℕ) (k : ℕ) (out' l'' : List ℕ) → spare' ≡ cond (ltb (length out - n) longest) l spare
       → (p, l') ≡ step l e → (k, out') ≡ placed out n (lineOf p) → l'' ≡ cond (eqb k 0) spare' l' → (k, l'', out') ≡ taken l e out n
@@ -41,7 +55,8 @@ returns c =
     let put = c .before .before .before .before .before .before .before in
     let apply = put .before .before .before .before in
     let keep = apply .before .before .before .before in
-    taking _ _ _ _ (keep .before .before .before .before .before .before .pre .1 .1) _ _ _ _ _ _ _ (keep .keep .ensures) (apply .apply .ensures) (put .put .ensures) (c .before .before .give-back .ensures)
+    taking _ _ _ _ (keep .before .before .before .before .before .before .pre .1 .1) _ _ _ _ _ _ _ (keep .keep .ensures)
+    (apply .apply .ensures) (put .put .ensures) (c .before .before .give-back .ensures)
 
 pub take-event-spec : {M : Type 1} → statement M
 take-event-spec =

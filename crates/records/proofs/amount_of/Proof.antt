@@ -15,7 +15,8 @@ returns : tie.Need-returns
 returns c = let b = c .before .args .b in plain b (omega arith) ∙ above b (c .if1 .taken)
 
 returns-2 : tie.Need-returns-2
-returns-2 c = let b = c .before .args .b in rw (plain b (omega arith), below b (c .if1 .left) (omega arith)) (toZ-ofZ w32 _ (fits b (c .if1 .left) (omega arith)))
+returns-2 c = let b = c .before .args .b in rw (plain b (omega arith), below b (c .if1 .left) (omega arith))
+    (toZ-ofZ w32 _ (fits b (c .if1 .left) (omega arith)))
 
 pub amount-of-spec : {M : Type 1} → statement M
 amount-of-spec = tie.close (tie.spec (λ c. search needs) (λ c. search needs) sub-result returns returns-2)

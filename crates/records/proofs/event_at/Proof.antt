@@ -53,7 +53,14 @@ returns-6 c = rw (c .before .match .keys6, c .change-at .ensures)
 
 returns-7 : tie.Need-returns-7
 unfolding eventOf
-returns-7 c = let none = c .match .rest in rw (ne-eqb _ _ (none .0 .0 .0 .0 .0 .1), ne-eqb _ _ (none .0 .0 .0 .0 .1), ne-eqb _ _ (none .0 .0 .0 .1), ne-eqb _ _ (none .0 .0 .1), ne-eqb _ _ (none .0 .1), ne-eqb _ _ (none .1))
+returns-7 c = let none = c .match .rest in rw (
+  ne-eqb _ _ (none .0 .0 .0 .0 .0 .1),
+  ne-eqb _ _ (none .0 .0 .0 .0 .1),
+  ne-eqb _ _ (none .0 .0 .0 .1),
+  ne-eqb _ _ (none .0 .0 .1),
+  ne-eqb _ _ (none .0 .1),
+  ne-eqb _ _ (none .1),
+)
 
 pub event-at-spec : {M : Type 1} → statement M
 event-at-spec =

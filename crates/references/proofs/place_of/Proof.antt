@@ -6,7 +6,11 @@ use Rattle.references.proofs.place_of.Statement.{statement}
 use Rattle.references.proofs.place_of.Tie as tie
 
 returns : tie.Need-returns
-returns c = rw (first-page (c .before .before .args .mode) (c .before .before .pre), ← c .before .bit .ensures .0, ← c .page-of .ensures .0) (search needs)
+returns c = rw (
+  first-page (c .before .before .args .mode) (c .before .before .pre),
+  ← c .before .bit .ensures .0,
+  ← c .page-of .ensures .0,
+) (search needs)
 
 pub place-of-spec : {M : Type 1} → statement M
 place-of-spec =

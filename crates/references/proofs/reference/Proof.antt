@@ -12,7 +12,12 @@ returns-2 : tie.Need-returns-2
 returns-2 c = rw (refer-step, eq-eqb _ _ (c .before .before .if1 .left), lt-ltb _ _ (c .if2 .taken))
 
 returns-3 : tie.Need-returns-3
-returns-3 c = rw (refer-step, eq-eqb _ _ (c .before .before .before .before .if1 .left), le-ltb _ _ (c .before .before .if2 .left), lt-ltb _ _ (c .if3 .taken))
+returns-3 c = rw (
+  refer-step,
+  eq-eqb _ _ (c .before .before .before .before .if1 .left),
+  le-ltb _ _ (c .before .before .if2 .left),
+  lt-ltb _ _ (c .if3 .taken),
+)
 
 returns-4 : tie.Need-returns-4
 returns-4 c =
@@ -27,7 +32,14 @@ returns-5 c =
     let at-if3 = at-if4 .before .before in
     let at-if2 = at-if3 .before .before in
     let at-if1 = at-if2 .before .before in
-    rw (refer-step, eq-eqb _ _ (at-if1 .if1 .left), le-ltb _ _ (at-if2 .if2 .left), le-ltb _ _ (at-if3 .if3 .left), le-ltb _ _ (at-if4 .if4 .left), lt-ltb _ _ (c .if5 .taken))
+    rw (
+      refer-step,
+      eq-eqb _ _ (at-if1 .if1 .left),
+      le-ltb _ _ (at-if2 .if2 .left),
+      le-ltb _ _ (at-if3 .if3 .left),
+      le-ltb _ _ (at-if4 .if4 .left),
+      lt-ltb _ _ (c .if5 .taken),
+    )
 
 returns-6 : tie.Need-returns-6
 returns-6 c =
@@ -37,7 +49,14 @@ returns-6 c =
     let at-if3 = at-if4 .before .before in
     let at-if2 = at-if3 .before .before in
     let at-if1 = at-if2 .before .before in
-    rw (refer-step, eq-eqb _ _ (at-if1 .if1 .left), le-ltb _ _ (at-if2 .if2 .left), le-ltb _ _ (at-if3 .if3 .left), le-ltb _ _ (at-if4 .if4 .left), le-ltb _ _ (at-if5 .if5 .left)) (at-referred .referred .ensures)
+    rw (
+      refer-step,
+      eq-eqb _ _ (at-if1 .if1 .left),
+      le-ltb _ _ (at-if2 .if2 .left),
+      le-ltb _ _ (at-if3 .if3 .left),
+      le-ltb _ _ (at-if4 .if4 .left),
+      le-ltb _ _ (at-if5 .if5 .left),
+    ) (at-referred .referred .ensures)
 
 pub reference-spec : {M : Type 1} → statement M
 reference-spec =

@@ -23,7 +23,13 @@ returns-4 c =
     let at-if3 = c .before .before in
     let at-if2 = at-if3 .before in
     let at-if1 = at-if2 .before in
-    rw (← c .before .register-at .ensures, eq-eqb _ _ (at-if1 .if1 .left), le-ltb _ _ (at-if2 .if2 .left), ne-eqb _ _ (at-if3 .if3 .left), lt-ltb _ _ (c .if4 .taken))
+    rw (
+      ← c .before .register-at .ensures,
+      eq-eqb _ _ (at-if1 .if1 .left),
+      le-ltb _ _ (at-if2 .if2 .left),
+      ne-eqb _ _ (at-if3 .if3 .left),
+      lt-ltb _ _ (c .if4 .taken),
+    )
 
 returns-5 : tie.Need-returns-5
 unfolding foundOf
@@ -31,7 +37,13 @@ returns-5 c =
     let at-if3 = c .before .before in
     let at-if2 = at-if3 .before in
     let at-if1 = at-if2 .before in
-    rw (← c .before .register-at .ensures, eq-eqb _ _ (at-if1 .if1 .left), le-ltb _ _ (at-if2 .if2 .left), ne-eqb _ _ (at-if3 .if3 .left), le-ltb _ _ (c .if4 .left))
+    rw (
+      ← c .before .register-at .ensures,
+      eq-eqb _ _ (at-if1 .if1 .left),
+      le-ltb _ _ (at-if2 .if2 .left),
+      ne-eqb _ _ (at-if3 .if3 .left),
+      le-ltb _ _ (c .if4 .left),
+    )
 
 pub find-spec : {M : Type 1} → statement M
 find-spec =

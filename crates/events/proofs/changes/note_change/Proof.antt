@@ -26,7 +26,12 @@ returns-3 c =
     let at-if2 = c .before .before in
     let at-if1 = at-if2 .before in
     let at-fits = at-if1 .before .before in
-    rw (change-step, eq-eqb _ _ (at-if1 .if1 .left), le-ltb _ _ (at-if2 .if2 .left), good-as _ (toZ-ofZ (at-fits .fits .amount)) (sym (c .before .good-amount .ensures) ∙ not-true _ (c .if3 .taken)))
+    rw (
+      change-step,
+      eq-eqb _ _ (at-if1 .if1 .left),
+      le-ltb _ _ (at-if2 .if2 .left),
+      good-as _ (toZ-ofZ (at-fits .fits .amount)) (sym (c .before .good-amount .ensures) ∙ not-true _ (c .if3 .taken)),
+    )
 
 returns-4 : tie.Need-returns-4
 returns-4 c =
@@ -35,7 +40,13 @@ returns-4 c =
     let at-if2 = at-good-amount .before in
     let at-if1 = at-if2 .before in
     let at-fits = at-if1 .before .before in
-    rw (change-step, eq-eqb _ _ (at-if1 .if1 .left), le-ltb _ _ (at-if2 .if2 .left), good-as _ (toZ-ofZ (at-fits .fits .amount)) (sym (at-good-amount .good-amount .ensures) ∙ not-false _ (at-if3 .if3 .left)), sym (c .before .frozen .ensures) ∙ c .if4 .taken)
+    rw (
+      change-step,
+      eq-eqb _ _ (at-if1 .if1 .left),
+      le-ltb _ _ (at-if2 .if2 .left),
+      good-as _ (toZ-ofZ (at-fits .fits .amount)) (sym (at-good-amount .good-amount .ensures) ∙ not-false _ (at-if3 .if3 .left)),
+      sym (c .before .frozen .ensures) ∙ c .if4 .taken,
+    )
 
 change-byte-requires : tie.Need-change-byte-requires
 change-byte-requires c κs =
@@ -55,7 +66,14 @@ returns-5 c =
     let at-if1 = at-if2 .before in
     let start = at-if1 .before .before in
     let byte = at-change-byte .change-byte .ensures .0 ∙ ap (changeByte (start .args .register)) (toZ-ofZ (start .fits .amount)) in
-    rw (change-step, eq-eqb _ _ (at-if1 .if1 .left), le-ltb _ _ (at-if2 .if2 .left), good-as _ (toZ-ofZ (start .fits .amount)) (sym (at-good-amount .good-amount .ensures) ∙ not-false _ (at-if3 .if3 .left)), sym (at-frozen .frozen .ensures) ∙ at-if4 .if4 .left, ← byte)
+    rw (
+      change-step,
+      eq-eqb _ _ (at-if1 .if1 .left),
+      le-ltb _ _ (at-if2 .if2 .left),
+      good-as _ (toZ-ofZ (start .fits .amount)) (sym (at-good-amount .good-amount .ensures) ∙ not-false _ (at-if3 .if3 .left)),
+      sym (at-frozen .frozen .ensures) ∙ at-if4 .if4 .left,
+      ← byte,
+    )
     (at-enter .enter .ensures)
 
 pub note-change-spec : {M : Type 1} → statement M

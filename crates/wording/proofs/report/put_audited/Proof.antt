@@ -10,8 +10,11 @@ returns c =
     let at-put-broken = at-put-map .before .before .before .before in
     let at-put-kept = at-put-broken .before .before .before .before in
     let at-put-end = at-put-kept .before .before .before .before in
-    let at-a = at-put-end .before .before .before .before in
-    (rw (at-a .a .given .1) (then (then (then (at-put-end .put-end .ensures .0) (at-put-kept .put-kept .ensures .0)) (at-put-broken .put-broken .ensures .0)) (at-put-map .put-map .ensures .0)), search needs)
+    let at-a = at-put-end .before .before .before .before in (
+      rw (at-a .a .given .1) (then (then (then (at-put-end .put-end .ensures .0) (at-put-kept .put-kept .ensures .0))
+          (at-put-broken .put-broken .ensures .0)) (at-put-map .put-map .ensures .0)),
+      search needs,
+    )
 
 returns-2 : tie.Need-returns-2
 returns-2 c =

@@ -13,8 +13,20 @@ returns c =
     let at-put-page = at-put3 .before .before .before .before .before in
     let at-put2 = at-put-page .before .before .before .before in
     let at-put-block = at-put2 .before .before .before .before .before in
-    let at-put = at-put-block .before .before .before .before .before in
-    ((then (then (then (then (then (then (at-put .put .ensures) (at-put-block .put-block .ensures)) (at-put2 .put2 .ensures)) (at-put-page .put-page .ensures .0)) (at-put3 .put3 .ensures)) (at-put-page2 .put-page2 .ensures .0)) (at-put4 .put4 .ensures)), omega (arith, at-put .put .ensures .next, at-put-block .put-block .ensures .next, at-put2 .put2 .ensures .next, at-put-page .put-page .ensures .1, at-put3 .put3 .ensures .next, at-put-page2 .put-page2 .ensures .1, at-put4 .put4 .ensures .next))
+    let at-put = at-put-block .before .before .before .before .before in (
+      (then (then (then (then (then (then (at-put .put .ensures) (at-put-block .put-block .ensures)) (at-put2 .put2 .ensures))
+          (at-put-page .put-page .ensures .0)) (at-put3 .put3 .ensures)) (at-put-page2 .put-page2 .ensures .0)) (at-put4 .put4 .ensures)),
+      omega (
+        arith,
+        at-put .put .ensures .next,
+        at-put-block .put-block .ensures .next,
+        at-put2 .put2 .ensures .next,
+        at-put-page .put-page .ensures .1,
+        at-put3 .put3 .ensures .next,
+        at-put-page2 .put-page2 .ensures .1,
+        at-put4 .put4 .ensures .next,
+      ),
+    )
 
 pub put-meeting-spec : {M : Type 1} → statement M
 put-meeting-spec =
