@@ -10,9 +10,10 @@ use Rattle.rules.specs.Step.{step}
 use Rattle.rules.specs.declared.Event.{Event}
 use Rattle.rules.specs.declared.Refusal.{Refusal}
 use Rattle.records.specs.Records.{recordAt}
-use Rattle.records.specs.declared.Found.{Found}
+use Rattle.records.specs.Recordings.{Records, event, end, refusal, recordsFrom}
 use Rattle.records.specs.declared.Found.the-variants.{Whole, Refused as Unread, End}
 use Rattle.records.specs.declared.Cursor.{Cursor}
+use Rattle.records.proofs.Recordings.{everyRecord}
 use Rattle.widening.specs.Runs.{calm, permitted}
 use Rattle.auditing.specs.Verdicts.{verdictOf}
 use Rattle.auditing.specs.declared.Verdict.{Verdict}
@@ -25,10 +26,9 @@ use Rattle.account.specs.declared.Broken.the-variants.{At, Nowhere}
 use Rattle.account.specs.declared.Ending.{Ending}
 use Rattle.account.specs.declared.Ending.the-variants.{All, Stopped}
 use Rattle.account.specs.declared.Course.{Course}
-use Rattle.account.specs.Runs.{Point, point, Run, ended, before, runOf, run}
+use Rattle.account.specs.Runs.{Point, point, Run, ended, before, run}
 use Rattle.account.specs.Reports.{eventsOf, keptFrom, breakAt, orEarlier, lastBroken, courseOf}
 use Rattle.account.specs.Turns.{fresh, orFresh, keptAfter, brokenAfter}
-use Rattle.account.proofs.Bound.{every-record}
 
 abbrev on : List ℕ → Bool
 on l = relocates (word l SR0)
@@ -56,22 +56,24 @@ stopping (From from) broken at l x s = refl
 
 module _ (r : List ℕ) where
   abbrev pub from : ℕ → List ℕ → Run
-  from at l = run (length r) r at l
+  from at l = run (recordsFrom r at) at l
 
   -- kept from here, if relocation is on, is what the run from here tells
-  fresh-of : (x : Found) (at : ℕ) (l : List ℕ) (o : Bool) → on l ≡ o → keptOver (fresh o at) l (runOf from at l x) ≡ keptOf (runOf from at l x)
-  fresh-of x at l false e = refl
-  fresh-of End at l true e = rw e
-  fresh-of (Unread u) at l true e = rw e
-  fresh-of (Whole v c) at l true e = rw e (same (calm l (v ∷ eventsOf (from (c .at) (step l v .1) .points))))
+  fresh-of : (rs : Records) (at : ℕ) (l : List ℕ) (o : Bool) → on l ≡ o → keptOver (fresh o at) l (run rs at l) ≡ keptOf (run rs at l)
+  fresh-of rs at l false e = refl
+  fresh-of end at l true e = rw e
+  fresh-of (refusal x) at l true e = rw e
+  fresh-of (event v next rest) at l true e = rw e (same (calm l (v ∷ eventsOf (later .points))))
     where
-      same : (k : Bool) → cond k (From at) (cond (true && k) (From at) (keptOf (from (c .at) (step l v .1)))) ≡ cond (true && k) (From at)
-          (keptOf (from (c .at) (step l v .1)))
+      later : Run
+      later = run rest next (step l v .1)
+
+      same : (k : Bool) → cond k (From at) (cond (true && k) (From at) (keptOf later)) ≡ cond (true && k) (From at) (keptOf later)
       same true = refl
       same false = refl
 
   pub fresh-kept : (at : ℕ) (l : List ℕ) → keptOver (fresh (on l) at) l (from at l) ≡ keptOf (from at l)
-  fresh-kept at l = rw (every-record r at l) (fresh-of (recordAt r at) at l (on l) refl)
+  fresh-kept at l = fresh-of (recordsFrom r at) at l (on l) refl
 
   module _ (at : ℕ) (l : List ℕ) (whole : length l ≡ 100) (e : Event) (next : Cursor) (found : recordAt r at ≡ Whole e next) where
     abbrev after : List ℕ
@@ -81,7 +83,7 @@ module _ (r : List ℕ) where
     rest = from (next .at) after
 
     here : from at l ≡ before (point at l e) rest
-    here = every-record r at l ∙ rw found
+    here = rw (everyRecord r at, found)
 
     -- a verdict on this record, as demand 3 has it
     allowed : verdictOf l e ≡ Permitted → permitted l e ≡ true
@@ -142,19 +144,19 @@ module _ (r : List ℕ) where
 
 -- a run that ends at once tells what is carried
 pub ended-over : (kept : Kept) (broken : Broken) (r : List ℕ) (at : ℕ) (l : List ℕ) → Sound kept l → recordAt r at ≡ End
-    → over kept broken l (run (length r) r at l) ≡ (record { kept = kept; broken = broken; at = at; ending = All }, l)
-ended-over kept broken r at l s h = rw (every-record r at l, h) (stopping kept broken at l All s)
+    → over kept broken l (run (recordsFrom r at) at l) ≡ (record { kept = kept; broken = broken; at = at; ending = All }, l)
+ended-over kept broken r at l s h = rw (everyRecord r at, h) (stopping kept broken at l All s)
 
 pub stopped-over : (kept : Kept) (broken : Broken) (r : List ℕ) (at : ℕ) (l : List ℕ) (x : Refusal) → Sound kept l → recordAt r at ≡ Unread x
-    → over kept broken l (run (length r) r at l) ≡ (record { kept = kept; broken = broken; at = at; ending = Stopped x }, l)
-stopped-over kept broken r at l x s h = rw (every-record r at l, h) (stopping kept broken at l (Stopped x) s)
+    → over kept broken l (run (recordsFrom r at) at l) ≡ (record { kept = kept; broken = broken; at = at; ending = Stopped x }, l)
+stopped-over kept broken r at l x s h = rw (everyRecord r at, h) (stopping kept broken at l (Stopped x) s)
 
 -- before the first record
-pub begin : (r l : List ℕ) → over (fresh (on l) 0) Nowhere l (run (length r) r 0 l) ≡ courseOf (run (length r) r 0 l)
-begin r l = rw (fresh-kept r 0 l) (none (lastBroken (run (length r) r 0 l .points)))
+pub begin : (r l : List ℕ) → over (fresh (on l) 0) Nowhere l (run (recordsFrom r 0) 0 l) ≡ courseOf (run (recordsFrom r 0) 0 l)
+begin r l = rw (fresh-kept r 0 l) (none (lastBroken (run (recordsFrom r 0) 0 l .points)))
   where
     q : Run
-    q = run (length r) r 0 l
+    q = run (recordsFrom r 0) 0 l
 
     none : (b : Broken) → _≡_ {A = Course × List ℕ} (record { kept = keptOf q; broken = orEarlier b Nowhere; at = q .at; ending = q .ending }, q .store)
         (record { kept = keptOf q; broken = b; at = q .at; ending = q .ending }, q .store)

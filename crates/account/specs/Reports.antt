@@ -7,6 +7,7 @@ use lib.Dec.{eqb, ltb}
 use Rattle.rules.specs.Words.{word, SR0, relocates}
 use Rattle.rules.specs.declared.Event.{Event}
 use Rattle.rules.specs.declared.Refusal.the-variants.{Store, Long}
+use Rattle.records.specs.Recordings.{recordsFrom}
 use Rattle.widening.specs.Runs.{calm}
 use Rattle.auditing.specs.Verdicts.{verdictOf}
 use Rattle.auditing.specs.declared.Verdict.{Verdict}
@@ -55,7 +56,7 @@ courseOf q =
 -- 1 and then 13; or the report, with the last store's map
 unfoldable pub auditOf : List ℕ → List ℕ → Audited × List ℕ
 auditOf l r =
-    let c = courseOf (run (length r) r 0 l) in
+    let c = courseOf (run (recordsFrom r 0) 0 l) in
     cond (eqb (length l) 100)
     (cond (ltb 32768 (length r)) (Refused Long, l) (Done (record { course = c .0; map = partingOf (c .1) }), c .1))
     (Refused Store, l)

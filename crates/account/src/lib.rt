@@ -4,6 +4,7 @@
 ghost use mathlib.Core.Path.{_≡_};
 ghost use lib.ListN.{length};
 ghost use Rattle.rules.specs.Words.{relocates};
+ghost use Rattle.records.specs.Recordings.{recordsFrom};
 ghost use Rattle.account.specs.Runs.{run};
 ghost use Rattle.account.specs.Reports.{courseOf, auditOf};
 ghost use Rattle.account.specs.Turns.{fresh as freshOf, orFresh, keptAfter, brokenAfter};
@@ -98,7 +99,7 @@ fn broken_after(broken: Broken, verdict: Verdict, at: usize) -> Broken
 // Record by record, to the end or to a record that can't be read.
 fn survey(s: &mut [u16], recording: &[u8]) -> Course
     requires { ⌜ length (now s) ≡ 100 ⌝ }
-    ensures { λ r. ⌜ (r, now (s .exit)) ≡ courseOf (run (length (now (recording .entry))) (now (recording .entry)) 0 (now (s .entry))) ⌝ }
+    ensures { λ r. ⌜ (r, now (s .exit)) ≡ courseOf (run (recordsFrom (now (recording .entry)) 0) 0 (now (s .entry))) ⌝ }
 {
     let mut at = 0;
     let mut kept = fresh(s[96], 0);

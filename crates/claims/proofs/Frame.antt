@@ -20,24 +20,10 @@ use Rattle.rules.specs.declared.Reference.{Reference}
 use Rattle.rules.specs.declared.Event.{Event}
 use Rattle.rules.specs.declared.Event.the-variants.{Refer, Read, Write, Instruction, Interrupt, Change, Init}
 use Rattle.claims.specs.Demand2.{pageFor}
-use Rattle.claims.specs.Frame.{written, named, OthersStay, LengthStays, OnlyMarks, Frame}
-use Rattle.claims.proofs.Marks.{marks}
-use Rattle.rules.proofs.Bools.{or-l, or-r, cond-first, cond-last, cond-getD, cond-length, cond-same}
-
--- lengths
-accepted-long : (l : List ℕ) (e : Event) → length (accepted l e .1) ≡ length l
-unfolding accepted referred illegalMode examined ruled writtenAt started noted cleared
-accepted-long l (Refer r) = simp (cond-last, cond-length, length-set, cond-same)
-accepted-long l (Read address) = refl
-accepted-long l (Write address value) = simp (cond-length, length-set, cond-same)
-accepted-long l (Instruction va) = simp (cond-length, length-set, cond-same)
-accepted-long l (Interrupt vector) = simp (cond-length, length-set, cond-same)
-accepted-long l (Change register amount) = simp (cond-length, length-set, cond-same)
-accepted-long l Init = simp length-set
-
-long : LengthStays
-unfolding step
-long l e = simp (cond-last, cond-length, accepted-long, cond-same)
+use Rattle.claims.specs.Frame.{written, named, OthersStay, Frame}
+use Rattle.claims.proofs.Marks.{onlyMarks}
+use Rattle.rules.proofs.Bools.{or-l, or-r, cond-first, cond-last, cond-getD, cond-same}
+use Rattle.rules.proofs.Length.{length-stays}
 
 -- words that are not named
 refer-stays : (l : List ℕ) (r : Reference) (i : ℕ) → (i ≡ SR0 → ⊥) → (i ≡ PDR (pageFor l r) → ⊥) → word (referred l r .1) i ≡ word l i
@@ -109,4 +95,4 @@ unfolding step
 others l e i h = simp (cond-last, cond-getD, accepted-stays l e i h, cond-same)
 
 pub frame : Frame
-frame = record { others = others; long = long; marks = marks }
+frame = record { others = others; long = length-stays; marks = onlyMarks }

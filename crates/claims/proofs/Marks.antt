@@ -87,5 +87,5 @@ by-length l r true e =
     (referred-marks l r (eqb-true (length l) 100 e)) (unmarked (pdrFor l r)))
 by-length l r false e = rw (other-length l r e) (unmarked (pdrFor l r))
 
-pub marks : OnlyMarks
-marks l r = by-length l r (eqb (length l) 100) refl
+pub onlyMarks : OnlyMarks
+onlyMarks l r = by-length l r (eqb (length l) 100) refl

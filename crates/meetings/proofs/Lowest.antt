@@ -103,9 +103,9 @@ both-ways false g m = (λ h. let n : _≡_ {A = ℕ} 0 1 = cc in absurd (omega a
 both-ways true true m = (λ h. let n : _≡_ {A = ℕ} 0 1 = cc in absurd (omega arith), λ h. absurd (false≢true (h .1)))
 both-ways true false m = (λ h. (refl, refl), λ h. refl)
 
-pub apart-is : ApartIs
+pub apartIs : ApartIs
 unfolding partingOf apart
-apart-is l =
+apartIs l =
     let g = ltb (firstOf (shared l) 0 4096) 4096 in
     let s : g ≡ some (shared l) 0 4096 = first-some (shared l) 0 4096 in
     let t = both-ways (eqb (length l) 100) g (meetingAt l (firstOf (shared l) 0 4096)) in (

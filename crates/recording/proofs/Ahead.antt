@@ -16,6 +16,7 @@ use Rattle.rules.specs.declared.Refusal.{Refusal}
 use Rattle.records.specs.Records.{recordAt}
 use Rattle.records.specs.declared.Cursor.{Cursor}
 use Rattle.records.specs.declared.Found.the-variants.{Whole, Refused, End}
+use Rattle.records.proofs.Recordings.{everyRecord}
 use Rattle.lines.specs.Lines.{Text, lineOf, placed}
 use Rattle.lines.proofs.Output.{fits, unfit}
 use Rattle.lines.proofs.Lengths.{some}
@@ -23,7 +24,6 @@ use Rattle.transcript.specs.Turns.{placeAt, stopped}
 use Rattle.transcript.specs.Steps.{Stretch, stretch, after, fitting, shown}
 use Rattle.recording.specs.Parts.{taken, ahead, ended}
 use Rattle.transcript.specs.declared.Stepped.{Stepped}
-use Rattle.transcript.proofs.Bound.{every-record}
 use Rattle.recording.proofs.Reached.{Reached, begin, write, finish}
 
 abbrev Outcome : Type 0
@@ -32,17 +32,17 @@ Outcome = ℕ × List ℕ × List ℕ
 module _ (r : List ℕ) (at : ℕ) (l : List ℕ) (room : ℕ) where
   pub ahead-end : recordAt r at ≡ End → ahead r at l room ≡ stretch [] (placeAt at true) l
   unfolding fitting
-  ahead-end e = rw (every-record r at l, e)
+  ahead-end e = rw (everyRecord r at, e)
 
   pub ahead-refused : (x : Refusal) → recordAt r at ≡ Refused x → ahead r at l room ≡ fitting room (placeAt at false) l (stopped (number x) at l)
-  ahead-refused x e = rw (every-record r at l, e)
+  ahead-refused x e = rw (everyRecord r at, e)
 
   pub ahead-event : (v : Event) (c : Cursor) → recordAt r at ≡ Whole v c
       → let line = lineOf (step l v .0) in
       ahead r at l room
       ≡ cond (leb (length line) room) (after line (ahead r (c .at) (step l v .1) (room - length line))) (stretch [] (placeAt at false) l)
   unfolding fitting
-  ahead-event v c e = rw (every-record r at l, e)
+  ahead-event v c e = rw (everyRecord r at, e)
 
 -- before the first record
 pub begins : (r : List ℕ) (at : ℕ) (l out : List ℕ) → Reached (ahead r at l (length out)) out out 0 (ahead r at l (length out - 0))

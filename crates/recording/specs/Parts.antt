@@ -6,6 +6,7 @@ use lib.ListN.{length}
 use lib.Dec.{leb, eqb}
 use Rattle.rules.specs.Step.{step}
 use Rattle.rules.specs.declared.Event.{Event}
+use Rattle.records.specs.Recordings.{recordsFrom}
 use Rattle.lines.specs.Lines.{Text, lineOf, placed}
 use Rattle.transcript.specs.Turns.{placeAt, turns}
 use Rattle.transcript.specs.Steps.{Stretch, fitting}
@@ -13,7 +14,7 @@ use Rattle.transcript.specs.declared.Stepped.{Stepped}
 
 -- a step that goes record by record, from a place on
 abbrev pub ahead : List ℕ → ℕ → List ℕ → ℕ → Stretch
-ahead r at l room = fitting room (placeAt at false) l (turns (length r) r at l)
+ahead r at l room = fitting room (placeAt at false) l (turns (recordsFrom r at) at l)
 
 -- an event and its line at a place of the output, where the line fits: how many bytes are written, the store and the output afterwards
 unfoldable pub taken : List ℕ → Event → List ℕ → ℕ → ℕ × List ℕ × List ℕ

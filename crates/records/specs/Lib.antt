@@ -1,3 +1,4 @@
 pub mod Bytes
 pub mod Kinds
 pub mod Records
+pub mod Recordings

@@ -3,3 +3,4 @@ pub mod Papers
 pub mod Outcomes
 pub mod Bools
 pub mod Masks
+pub mod Length

@@ -74,8 +74,8 @@ all-fit p l (t ∷ ts) room h =
     (finished-more t ts (fitting (room - length (t .line)) (t .place) (t .store) ts)
     (all-fit (t .place) (t .store) ts (room - length (t .line)) (omega (arith, n))))
 
-pub at-once : AtOnce
-at-once r p l room h = all-fit p l (turnsFrom r p l) room h
+pub atOnce : AtOnce
+atOnce r p l room h = all-fit p l (turnsFrom r p l) room h
 
 -- a step with room for a line takes a turn, if one is left
 takes : (r : List ℕ) (p : Place) (l : List ℕ) (t : Turn) (ts : List Turn) (room : ℕ) → Chain r p l (t ∷ ts) → Roomy room
@@ -134,7 +134,7 @@ all-taken (room ∷ rooms) r p l (t ∷ ts) c e w h =
     (all-taken rooms r (fitting room p l (t ∷ ts) .place) (fitting room p l (t ∷ ts) .store) (rest room (t ∷ ts)) (k .chained) (k .from) (w .1)
     (omega (arith, takes r p l t ts room c (w .0)))))
 
-pub in-steps : InSteps
-in-steps r l rooms w h =
+pub inSteps : InSteps
+inSteps r l rooms w h =
     all-taken rooms r (placeAt 0 false) l (turnsFrom r (placeAt 0 false) l) (chain r (placeAt 0 false) l) refl w
     (omega (arith, count r (placeAt 0 false) l))

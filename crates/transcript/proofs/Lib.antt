@@ -1,5 +1,4 @@
-pub mod Kept
-pub mod Bound
+pub mod Count
 pub mod Chains
 pub mod Claims
 pub mod WholeCase

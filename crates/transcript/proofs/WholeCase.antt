@@ -7,11 +7,11 @@ use Rattle.rules.specs.Registers.{writtenAt}
 use Rattle.rules.specs.Refusals.{refusalOf}
 use Rattle.rules.specs.Step.{step, accepted}
 use Rattle.records.specs.Records.{eventOf, recordAt}
+use Rattle.records.specs.Recordings.{recordsWithin}
 use Rattle.lines.specs.Lines.{lineOf}
-use Rattle.transcript.specs.Turns.{turns}
 use Rattle.transcript.specs.Transcript.{turnsFrom}
 use Rattle.transcript.specs.Claims.{WholeCase}
 
-pub whole-case : WholeCase
-unfolding turnsFrom turns recordAt eventOf lineOf step accepted refusalOf referred illegalMode examined ruled writtenAt lengthError registerAt
-whole-case = refl
+pub wholeCase : WholeCase
+unfolding turnsFrom recordsWithin recordAt eventOf lineOf step accepted refusalOf referred illegalMode examined ruled writtenAt lengthError registerAt
+wholeCase = refl

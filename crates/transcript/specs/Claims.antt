@@ -4,17 +4,12 @@ use mathlib.Core.Path.{_≡_}
 use mathlib.Core.Bool.{true, false, cond}
 use mathlib.Core.List.{List, [], _∷_, _++_}
 use lib.ListN.{length, replicate}
-use Rattle.records.specs.Records.{recordAt}
 use Rattle.rules.specs.Paper.{G, R, D}
 use Rattle.lines.specs.Lines.{Text, lineOf, longest}
-use Rattle.transcript.specs.Turns.{placeAt, turns, turnsOf}
+use Rattle.transcript.specs.Turns.{placeAt}
 use Rattle.transcript.specs.Transcript.{turnsFrom, left, transcript}
 use Rattle.transcript.specs.Steps.{Stretch, stepOf, stepsOf}
 use Rattle.transcript.specs.declared.Place.{Place}
-
--- the bound on the number of turns cuts nothing off: the turns from a place are its record's, and those from the next place
-abbrev pub EveryRecord : Type 0
-EveryRecord = (r : List ℕ) (at : ℕ) (l : List ℕ) → turns (length r) r at l ≡ turnsOf (turns (length r) r) at l (recordAt r at)
 
 -- whatever the room, what a step writes and what is then left make what was left before
 abbrev pub Together : Type 0
@@ -62,8 +57,8 @@ InSteps =
     → AllRoomy rooms → length r + 1 < length rooms → Finished (stepsOf r (placeAt 0 false) l rooms) (transcript r l)
 
 -- the whole case of 01, from all registers 0
-abbrev pub wholeCase : List ℕ
-wholeCase =
+abbrev pub wholeCaseBytes : List ℕ
+wholeCaseBytes =
     0x03 ∷ 0xEE ∷ 0xF4 ∷ 0x03 ∷ 0x2E ∷ 0x07
     ∷ 0x03 ∷ 0xCE ∷ 0xF4 ∷ 0x03 ∷ 0x06 ∷ 0x7F
     ∷ 0x03 ∷ 0x7A ∷ 0xFF ∷ 0x03 ∷ 0x01 ∷ 0x00
@@ -72,5 +67,5 @@ wholeCase =
 
 abbrev pub WholeCase : Type 0
 WholeCase =
-    transcript wholeCase (replicate 100 0) .0
+    transcript wholeCaseBytes (replicate 100 0) .0
     ≡ lineOf D ++ lineOf D ++ lineOf D ++ lineOf (G 0o355256 false) ++ lineOf (R 0o077406)

@@ -4,6 +4,7 @@ use mathlib.Core.Bool.{false, cond, not}
 use mathlib.Core.List.{List, [], _∷_, _++_}
 use lib.ListN.{length}
 use lib.Dec.{ltb, eqb}
+use Rattle.records.specs.Recordings.{recordsFrom}
 use Rattle.lines.specs.Lines.{Text}
 use Rattle.transcript.specs.Turns.{Turn, placeAt, stopped, turns}
 use Rattle.transcript.specs.declared.Place.{Place}
@@ -14,7 +15,7 @@ turnsFrom r p l =
     cond (p .over) []
     (cond (not (eqb (length l) 100)) (stopped 1 (p .at) l)
     (cond (ltb 32768 (length r)) (stopped 13 (p .at) l)
-    (turns (length r) r (p .at) l)))
+    (turns (recordsFrom r (p .at)) (p .at) l)))
 
 abbrev pub textOf : List Turn → Text
 textOf [] = []

@@ -1,12 +1,10 @@
 -- A recording, record by record: each turn has a line, says how far the replay then is, and leaves a store.
-use Prim.Native.Nat.{ℕ, zero, suc}
+use Prim.Native.Nat.{ℕ}
 use mathlib.Core.Bool.{Bool, true, false}
 use mathlib.Core.List.{List, [], _∷_}
 use Rattle.rules.specs.Paper.{Paper, X, number}
 use Rattle.rules.specs.Step.{step}
-use Rattle.records.specs.Records.{recordAt}
-use Rattle.records.specs.declared.Found.{Found}
-use Rattle.records.specs.declared.Found.the-variants.{Whole, Refused, End}
+use Rattle.records.specs.Recordings.{Records, event, end, refusal}
 use Rattle.lines.specs.Lines.{Text, lineOf}
 use Rattle.transcript.specs.declared.Place.{Place}
 
@@ -25,15 +23,10 @@ turn p at over l = record { line = lineOf p; place = placeAt at over; store = l 
 abbrev pub stopped : ℕ → ℕ → List ℕ → List Turn
 stopped n at l = turn (X n) at true l ∷ []
 
--- what stands at a place: nothing at the end; after 11 or 12 the replay stops; after an event, refused or not, it goes on
-abbrev pub turnsOf : (ℕ → List ℕ → List Turn) → ℕ → List ℕ → Found → List Turn
-turnsOf rest at l End = []
-turnsOf rest at l (Refused r) = stopped (number r) at l
-turnsOf rest at l (Whole e next) =
+-- from a place on: nothing at the end; after 11 or 12 the replay stops; after an event, refused or not, it goes on
+abbrev pub turns : Records → ℕ → List ℕ → List Turn
+turns end at l = []
+turns (refusal r) at l = stopped (number r) at l
+turns (event e next rest) at l =
     let s = step l e in
-    turn (s .0) (next .at) false (s .1) ∷ rest (next .at) (s .1)
-
--- the turns from a place on, n at most; a recording has no more records than bytes
-unfoldable pub turns : ℕ → List ℕ → ℕ → List ℕ → List Turn
-turns zero r at l = []
-turns (suc n) r at l = turnsOf (turns n r) at l (recordAt r at)
+    turn (s .0) next false (s .1) ∷ turns rest next (s .1)

@@ -20,7 +20,7 @@ use Rattle.widening.proofs.Wider.{Wider}
 use Rattle.rules.proofs.Bools.{first-small}
 use Rattle.widening.proofs.Steps.{calm-append, stays-on, later-wider}
 use Rattle.widening.proofs.Grants.{grant-of, granted-of, grant-kept, no-flag, no-length-error, pageFor}
-use Rattle.widening.proofs.Reached.{reached, reaching, apart-is}
+use Rattle.widening.proofs.Reached.{reached, reaching, apartIs}
 
 pub staysOn : StaysOn
 staysOn = stays-on
@@ -105,7 +105,7 @@ granted-last l o run es fs e h r byte g =
 
 pub neverShared : NeverShared
 neverShared l o run es fs gs hs e f h a r q byte x y =
-    apart-is (after l run) .0 a (r .mode) (q .mode) (byte / 64) (granted-last l o run es fs e h r byte x) (granted-last l o run gs hs f h q byte y)
+    apartIs (after l run) .0 a (r .mode) (q .mode) (byte / 64) (granted-last l o run es fs e h r byte x) (granted-last l o run gs hs f h q byte y)
 
 pub demand3 : Demand3
 demand3 = record { kept = kept; neverShared = neverShared }

@@ -11,7 +11,7 @@ use Rattle.rules.specs.Words.{word, PDR, SR3}
 use Rattle.rules.specs.References.{firstPage}
 use Rattle.widening.specs.Some.{some}
 use Rattle.widening.specs.Reaches.{allows, pagesOf, reaches, apart}
-use Rattle.widening.proofs.Reached.{some-none, reached, by-mode, apart-is}
+use Rattle.widening.proofs.Reached.{some-none, reached, by-mode, apartIs}
 
 -- a the block is allowed, e its owner is the mode
 both : (a e : Bool) → a ≡ true → (a && not e) ≡ false → e ≡ true
@@ -51,7 +51,7 @@ module _ (owner : ℕ → ℕ) where
       λ m block r.
       by-mode (λ (n : ℕ). reaches l n block ≡ true → owner block ≡ n) (owns l 0 block (not-true _ (t .0))) (owns l 1 block (not-true _ (t .1)))
       (owns l 3 block (not-true _ (s .1))) m (reached l m block r .2 .legal) r in
-      apart-is l .1 (λ m n block p q. sym (each m block p) ∙ each n block q)
+      apartIs l .1 (λ m n block p q. sym (each m block p) ∙ each n block q)
 
 -- the same for a list of stores, each with its owners
 unfoldable pub allOwned : List (List ℕ) → List (ℕ → ℕ) → Bool

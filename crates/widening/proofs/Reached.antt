@@ -53,8 +53,8 @@ reaching l mode block page b r =
     (some-holds (liesIn l block page) 0 128 b (omega arith) (omega (arith, r .within))
     (rw (r .allowed) (eq-eqb (memoryBlock (word l page) b) block (r .lies)))))
 
-pub reaches-is : ReachesIs
-reaches-is l mode block = (reached l mode block, λ p. reaching l mode block (p .0) (p .1) (p .2))
+pub reachesIs : ReachesIs
+reachesIs l mode block = (reached l mode block, λ p. reaching l mode block (p .0) (p .1) (p .2))
 
 -- a mode that reaches is 0, 1 or 3
 pub by-mode : (P : ℕ → Type 0) → P 0 → P 1 → P 3 → (m : ℕ) → isMode m ≡ true → P m
@@ -113,5 +113,5 @@ module _ (l : List ℕ) where
           (λ a b. omega (arith, h 0 1 (s .0) a b)) (λ a b. omega (arith, h 0 3 (s .0) a b)) (λ a b. omega (arith, h 1 3 (s .0) a b)))
       at false e = rw e
 
-pub apart-is : ApartIs
-apart-is l = (one-mode l, all-apart l)
+pub apartIs : ApartIs
+apartIs l = (one-mode l, all-apart l)

@@ -6,6 +6,7 @@ use native.Mathlib.Omega.{arith}
 use lib.ListN.{length}
 use borrow.Author.Needs.{needs}
 use Rattle.rules.specs.Paper.{Paper}
+use Rattle.records.specs.Recordings.{recordsFrom}
 use Rattle.records.proofs.Laws.{advances}
 use Rattle.account.specs.Runs.{run}
 use Rattle.account.specs.Reports.{courseOf}
@@ -16,7 +17,7 @@ use Rattle.account.proofs.survey.Tie as tie
 abbrev Inv-loop : tie.InvT-loop
 Inv-loop s₀ recording at₀ kept₀ broken₀ s at kept broken =
     (length s ≡ 100)
-    × (Sound kept s × (over kept broken s (run (length recording) recording at s) ≡ courseOf (run (length recording) recording 0 s₀)))
+    × (Sound kept s × (over kept broken s (run (recordsFrom recording at) at s) ≡ courseOf (run (recordsFrom recording 0) 0 s₀)))
 
 abbrev μ-loop : tie.MeasureT-loop
 μ-loop s₀ recording at₀ kept₀ broken₀ s at kept broken = length recording - at
