@@ -1,7 +1,7 @@
 -- What the code carries comes to the report: with what is carried at a record, the run from there tells what the whole run tells.
 use mathlib.Core.Path.{_≡_, refl, sym, _∙_}
 use mathlib.Core.Bool.{Bool, true, false, cond, _&&_}
-use mathlib.Core.List.{List, [], _∷_}
+use mathlib.Core.List.{List, _∷_}
 use Prim.Native.Nat.{ℕ}
 use native.Mathlib.Omega.{arith}
 use lib.ListN.{length}
@@ -26,9 +26,9 @@ use Rattle.account.specs.declared.Broken.the-variants.{At, Nowhere}
 use Rattle.account.specs.declared.Ending.{Ending}
 use Rattle.account.specs.declared.Ending.the-variants.{All, Stopped}
 use Rattle.account.specs.declared.Course.{Course}
-use Rattle.account.specs.Runs.{Point, point, Run, ended, before, run}
+use Rattle.account.specs.Runs.{point, Run, ended, before, run}
 use Rattle.account.specs.Reports.{eventsOf, keptFrom, breakAt, orEarlier, lastBroken, courseOf}
-use Rattle.account.specs.Turns.{fresh, orFresh, keptAfter, brokenAfter}
+use Rattle.account.specs.Turns.{fresh, keptAfter, brokenAfter}
 
 abbrev on : List ℕ → Bool
 on l = relocates (word l SR0)

@@ -18,7 +18,6 @@ use Rattle.account.specs.declared.Kept.the-variants.{From, Never}
 use Rattle.account.specs.declared.Broken.{Broken}
 use Rattle.account.specs.declared.Broken.the-variants.{At, Nowhere}
 use Rattle.account.specs.declared.Course.{Course}
-use Rattle.account.specs.declared.Report.{Report}
 use Rattle.account.specs.declared.Audited.{Audited}
 use Rattle.account.specs.declared.Audited.the-variants.{Done, Refused}
 use Rattle.account.specs.Runs.{Point, Run, run}

@@ -11,7 +11,6 @@ use Rattle.rules.specs.Refusals.{refusalOf}
 use Rattle.rules.specs.declared.Event.{Event}
 use Rattle.rules.specs.declared.Event.the-variants.{Refer, Read, Write, Instruction, Interrupt, Change, Init}
 use Rattle.rules.specs.declared.Refusal.the-variants.{Store}
-use Rattle.widening.specs.Runs.{permitted}
 use Rattle.widening.specs.Premises.{premises, every}
 use Rattle.widening.proofs.Premises.{premisesAre}
 use Rattle.auditing.specs.declared.Reason.{Reason}

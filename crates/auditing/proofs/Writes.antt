@@ -1,15 +1,15 @@
 -- The verdict on a write is the verdict on the place it is to: an accepted write is to a register, and SR0 after it is known by the place.
 use mathlib.Core.Path.{_≡_, refl, sym, _∙_}
-use mathlib.Core.Bool.{Bool, true, false, cond, not, _&&_, _||_, true≢false}
+use mathlib.Core.Bool.{Bool, true, false, cond, not, _&&_, _||_}
 use mathlib.Core.List.{List, [], _∷_}
 use Prim.Native.Nat.{ℕ, _/_, _%_}
 use native.Mathlib.Omega.{arith}
 use native.Mathlib.Nat.{mod-mod}
 use lib.Dec.{eqb, ltb}
 use lib.Bits.{bitOr, bitAnd, or-mod, or-zero-r, and-mod, and-mask, and-zero-r}
-use lib.ListN.{length, set, length-set}
+use lib.ListN.{length, set}
 use lib.Seq.{getD-set-same, getD-set-other}
-use borrow.Author.Tests.{eq-eqb, ne-eqb, le-ltb, lt-ltb, ltb-true, ltb-false, eqb-true}
+use borrow.Author.Tests.{eq-eqb, ne-eqb, ltb-true}
 use Rattle.page.specs.Fields.{edOf}
 use Rattle.rules.specs.Keys.{keyOf, nonResident}
 use Rattle.rules.specs.Words.{word, PDR, SR0, SR3, relocates}
@@ -18,14 +18,12 @@ use Rattle.rules.specs.Registers.{writtenAt}
 use Rattle.rules.specs.Refusals.{refusalOf, odd}
 use Rattle.rules.specs.Step.{step, accepted}
 use Rattle.rules.specs.declared.Event.the-variants.{Write}
-use Rattle.rules.specs.declared.Refusal.the-variants.{Store}
 use Rattle.decode.specs.Parts.{byPart, firstOf, statusAt}
 use Rattle.decode.proofs.Same.{same}
 use Rattle.widening.specs.Widens.{widensPar, keepsBlocks, keepsRights}
 use Rattle.widening.specs.Premises.{premises}
-use Rattle.auditing.specs.declared.Reason.the-variants.{Init, WritesSr3, RelocationOff, ChangesPar, ChangesEd, Narrows, LosesRights}
-use Rattle.auditing.specs.declared.Verdict.{Verdict}
-use Rattle.auditing.specs.declared.Verdict.the-variants.{Permitted, Breaks, Refused}
+use Rattle.auditing.specs.declared.Reason.the-variants.{WritesSr3, RelocationOff, ChangesPar, ChangesEd, Narrows, LosesRights}
+use Rattle.auditing.specs.declared.Verdict.the-variants.{Permitted, Breaks}
 use Rattle.auditing.specs.Verdicts.{verdictOf, firstBroken, reasons}
 use Rattle.auditing.specs.Places.{leftOn, placeVerdict}
 

@@ -1,13 +1,13 @@
 -- A code is read back: its kind and each flag and value by arithmetic. Hence no two small answers have one code.
 use mathlib.Core.Path.{_≡_, refl, sym, ap, _∙_}
 use mathlib.Core.Bool.{Bool, true, false}
-use Prim.Native.Nat.{ℕ, _+_, _*_, _/_, _%_, _≤_}
+use Prim.Native.Nat.{ℕ, _+_, _*_, _/_, _%_}
 use native.Mathlib.Omega.{arith}
 use lib.Dec.{eqb}
-use Rattle.rules.specs.Paper.{Paper, G, A, R, D, X}
+use Rattle.rules.specs.Paper.{G, A, R, D, X}
 use Rattle.rules.specs.Words.{bit}
 use Rattle.rules.proofs.Bools.{bit-small}
-use Rattle.board.specs.Codes.{codeOf, Small, flag, answerOf, ReadBack, OneToOne}
+use Rattle.board.specs.Codes.{flag, answerOf, ReadBack, OneToOne}
 
 same-bit : (b : Bool) → eqb (bit b) 1 ≡ b
 same-bit true = refl

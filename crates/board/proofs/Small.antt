@@ -2,17 +2,16 @@
 use mathlib.Core.Path.{_≡_, refl, sym, subst}
 use mathlib.Core.Bool.{Bool, true, false, cond, _&&_}
 use mathlib.Core.List.{List, [], _∷_}
-use Prim.Native.Nat.{ℕ, _+_, _*_, _<_, _≤_}
+use Prim.Native.Nat.{ℕ, _+_, _<_, _≤_}
 use native.Mathlib.Omega.{arith}
-use lib.Dec.{ltb, leb, eqb}
+use lib.Dec.{ltb, eqb}
 use lib.Bits.{bitAnd, and-le-r}
 use borrow.Author.Tests.{ltb-true}
 use Rattle.page.specs.Sum.{byteOf}
-use Rattle.rules.specs.Paper.{Paper, G, A, R, D, X}
+use Rattle.rules.specs.Paper.{Paper, G, A, X}
 use Rattle.rules.specs.Words.{word, PDR, SR0, SR3, relocates, implemented}
 use Rattle.rules.specs.Addresses.{registerAt}
 use Rattle.rules.specs.References.{flatByte, usesD, placeOf, details, aborts, ruled, examined, illegalMode, referred}
-use Rattle.rules.specs.Registers.{readAt}
 use Rattle.rules.specs.Refusals.{Conditions, lowest, conditions, refusalOf}
 use Rattle.rules.specs.Step.{step, accepted}
 use Rattle.rules.specs.declared.Reference.{Reference}

@@ -2,7 +2,6 @@
 // The codes are in specs/Codes.antt; include/kt11c.h says them for C.
 
 ghost use mathlib.Core.Path.{_≡_};
-ghost use lib.IntN.{pos, negsuc};
 ghost use Rattle.rules.specs.Paper.{paper};
 ghost use Rattle.rules.specs.Step.{step};
 ghost use Rattle.rules.specs.declared.Event.the-variants.{Refer, Read, Write, Instruction, Interrupt, Change, Init};

@@ -1,23 +1,21 @@
 -- Stores that agree on the implemented bits: what the rules read of them is the same, and alike changes keep them alike.
-use mathlib.Core.Path.{_≡_, refl, sym, _∙_, ap}
-use mathlib.Core.Bool.{Bool, true, false, cond, not, _&&_, _||_}
+use mathlib.Core.Path.{_≡_, refl, sym, _∙_}
+use mathlib.Core.Bool.{Bool, true, false, cond}
 use mathlib.Core.List.{List}
-use Prim.Native.Nat.{ℕ, _+_, _*_, _-_, _/_, _%_, _^_, _<_, _≤_}
+use Prim.Native.Nat.{ℕ, _+_, _-_, _%_, _^_, _<_}
 use native.Mathlib.Omega.{arith}
 use lib.Dec.{eqb, ltb}
-use lib.Bits.{bitAnd, bitOr, or-comm, and-mask}
-use lib.ListN.{length, getD, set, length-set}
+use lib.ListN.{length, set, length-set}
 use lib.Seq.{getD-set-same, getD-set-other, set-out}
 use borrow.Author.Tests.{eqb-true, eqb-false, ltb-true, ltb-false, lt-ltb, le-ltb}
-use Rattle.page.specs.Fields.{baseOf, lengthOf, edOf}
+use Rattle.page.specs.Fields.{baseOf}
 use Rattle.page.specs.Length.{lengthError}
 use Rattle.rules.specs.Keys.{keyOf}
 use Rattle.rules.specs.Words.{word, PDR, SR0, SR1, SR3, implemented, relocates, trapsEnabled, frozen, enablesD}
-use Rattle.rules.specs.References.{sr0After}
 use Rattle.rules.specs.Registers.{readAt}
-use Rattle.rules.specs.Others.{bothUsed, withChange}
+use Rattle.rules.specs.Others.{bothUsed}
 use Rattle.claims.specs.Unimplemented.{Alike}
-use Rattle.rules.proofs.Masks.{Same, same-or, same-and, same-field, same-low}
+use Rattle.rules.proofs.Masks.{Same, same-field, same-low}
 
 -- a word stored at one place in both
 at-place : (l m : List ℕ) (p v w : ℕ) → Alike l m → Same (implemented p) v w → (x : Bool) → ltb p (length l) ≡ x

@@ -5,15 +5,15 @@ use mathlib.Core.List.{List}
 use Prim.Native.Nat.{ℕ}
 use native.Mathlib.Omega.{arith}
 use lib.Dec.{eqb}
-use borrow.Author.Tests.{eqb-true, eqb-false, ne-eqb}
+use borrow.Author.Tests.{eqb-false, ne-eqb}
 use Rattle.rules.specs.Paper.{Paper, G, A, R, D, X}
 use Rattle.rules.specs.References.{ruled, examined, illegalMode, referred}
-use Rattle.rules.specs.Refusals.{Conditions, conditions, holds, lowest, refusalOf}
+use Rattle.rules.specs.Refusals.{conditions, lowest, refusalOf}
 use Rattle.rules.specs.Step.{step, accepted}
 use Rattle.rules.specs.declared.Reference.{Reference}
 use Rattle.rules.specs.declared.Event.{Event}
 use Rattle.rules.specs.declared.Event.the-variants.{Refer, Read, Write, Instruction, Interrupt, Change, Init}
-use Rattle.claims.specs.Demand1.{Lowest, RefusedExactly, RefusedKeeps, Demand1}
+use Rattle.claims.specs.Demand1.{Lowest, RefusedKeeps, Demand1}
 use Rattle.rules.proofs.Bools.{cond-first, cond-same}
 use Rattle.claims.proofs.Lowest.{rising, absent, first-lowest, lowest-first}
 

@@ -1,11 +1,11 @@
 -- Demand 2, "exactly": with relocation on an answer goes by mode, flags, sum and trap alone, as bools case by case.
-use mathlib.Core.Path.{_≡_, refl, sym, _∙_, ap}
+use mathlib.Core.Path.{_≡_, refl, sym, _∙_}
 use mathlib.Core.Bool.{Bool, true, false, cond, not, _&&_, _||_, false≢true, true≢false}
 use mathlib.Core.List.{List}
-use Prim.Native.Nat.{ℕ, _%_, _<_, _≤_}
+use Prim.Native.Nat.{ℕ}
 use native.Mathlib.Omega.{arith}
 use lib.ListN.{length}
-use lib.Dec.{eqb, ltb}
+use lib.Dec.{eqb}
 use borrow.Author.Tests.{eq-eqb, le-ltb}
 use Rattle.page.specs.Fields.{blockOf}
 use Rattle.page.specs.Length.{lengthError}
@@ -18,7 +18,7 @@ use Rattle.rules.specs.Refusals.{refusalOf}
 use Rattle.rules.specs.Step.{step, accepted}
 use Rattle.rules.specs.declared.Reference.{Reference}
 use Rattle.rules.specs.declared.Event.the-variants.{Refer}
-use Rattle.claims.specs.Demand2.{Relocated, parFor, pdrFor, writing, Allowed, GrantedExactly, Barred, AbortedExactly, Demand2}
+use Rattle.claims.specs.Demand2.{Relocated, parFor, pdrFor, writing, Allowed, Barred, Demand2}
 use Rattle.rules.proofs.Bools.{cond-first}
 
 -- the answer by mode 2, the three flags, the byte and the trap

@@ -1,5 +1,5 @@
 -- A promise determines its result: the outcomes are equal pairs, and `paper` is one-to-one.
-use mathlib.Core.Path.{_≡_, sym, _∙_, ap}
+use mathlib.Core.Path.{sym, _∙_, ap}
 use mathlib.Core.List.{List}
 use Prim.Native.Nat.{ℕ}
 use Rattle.rules.specs.Paper.{Paper}

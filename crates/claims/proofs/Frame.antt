@@ -1,28 +1,25 @@
 -- What an event leaves alone: each word that it does not name, the length, and all but A and W of a reference's PDR.
-use mathlib.Core.Path.{_≡_, refl, sym, _∙_, ap}
+use mathlib.Core.Path.{_≡_, refl, sym, _∙_}
 use mathlib.Core.Bool.{Bool, true, false, cond, not, _&&_, _||_, true≢false}
 use mathlib.Core.List.{List}
-use Prim.Native.Nat.{ℕ, _+_, _*_, _<_}
-use native.Mathlib.Omega.{arith}
+use Prim.Native.Nat.{ℕ}
 use lib.Dec.{eqb, ltb}
-use lib.Bits.{bitOr, or-zero-r}
-use lib.ListN.{length, getD, set, length-set}
-use lib.Seq.{getD-set-other, getD-set-same, set-out}
-use borrow.Author.Tests.{eqb-true, eqb-false, ltb-true, eq-eqb}
-use Rattle.rules.specs.Words.{word, PDR, SR0, SR1, SR2, SR3, bit}
+use lib.ListN.{set}
+use lib.Seq.{getD-set-other}
+use borrow.Author.Tests.{eqb-true, eqb-false}
+use Rattle.rules.specs.Words.{word, PDR, SR0, SR1, SR2, SR3}
 use Rattle.rules.specs.Addresses.{registerAt}
 use Rattle.rules.specs.References.{ruled, examined, illegalMode, referred}
 use Rattle.rules.specs.Registers.{writtenAt}
 use Rattle.rules.specs.Others.{started, noted, cleared}
-use Rattle.rules.specs.Refusals.{refusalOf}
 use Rattle.rules.specs.Step.{step, accepted}
 use Rattle.rules.specs.declared.Reference.{Reference}
 use Rattle.rules.specs.declared.Event.{Event}
 use Rattle.rules.specs.declared.Event.the-variants.{Refer, Read, Write, Instruction, Interrupt, Change, Init}
 use Rattle.claims.specs.Demand2.{pageFor}
-use Rattle.claims.specs.Frame.{written, named, OthersStay, Frame}
+use Rattle.claims.specs.Frame.{named, OthersStay, Frame}
 use Rattle.claims.proofs.Marks.{onlyMarks}
-use Rattle.rules.proofs.Bools.{or-l, or-r, cond-first, cond-last, cond-getD, cond-same}
+use Rattle.rules.proofs.Bools.{or-l, or-r, cond-last, cond-getD, cond-same}
 use Rattle.rules.proofs.Length.{length-stays}
 
 -- words that are not named

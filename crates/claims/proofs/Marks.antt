@@ -1,16 +1,14 @@
 -- Of its page's PDR a reference alters A and W only: it stays as it is, or rule 7's marks are added to it.
-use mathlib.Core.Path.{_≡_, refl, sym, _∙_}
-use mathlib.Core.Bool.{Bool, true, false, cond, not, _&&_, _||_}
+use mathlib.Core.Path.{_≡_, refl, sym}
+use mathlib.Core.Bool.{Bool, true, false, cond}
 use mathlib.Core.List.{List}
-use Prim.Native.Nat.{ℕ, _+_, _*_, _<_, _≤_}
+use Prim.Native.Nat.{ℕ, _+_, _*_, _<_}
 use native.Mathlib.Omega.{arith}
-use lib.Dec.{eqb, ltb}
+use lib.Dec.{eqb}
 use lib.Bits.{bitOr, or-zero-r}
-use lib.ListN.{length, getD, set, length-set}
+use lib.ListN.{length, getD, set}
 use lib.Seq.{getD-set-other, getD-set-same}
 use borrow.Author.Tests.{eqb-true}
-use Rattle.page.specs.Fields.{blockOf, pageOf}
-use Rattle.page.specs.Length.{lengthError}
 use Rattle.page.specs.Sum.{byteOf}
 use Rattle.rules.specs.Words.{word, PDR, SR0, SR3, bit, relocates}
 use Rattle.rules.specs.Addresses.{inRegisters}
@@ -21,7 +19,7 @@ use Rattle.rules.specs.declared.Reference.{Reference}
 use Rattle.rules.specs.declared.Event.the-variants.{Refer}
 use Rattle.claims.specs.Demand2.{pageFor, parFor, pdrFor, writing}
 use Rattle.claims.specs.Frame.{OnlyMarks}
-use Rattle.rules.proofs.Bools.{cond-last, cond-getD, cond-same, place-small}
+use Rattle.rules.proofs.Bools.{cond-last, cond-getD, place-small}
 
 -- a word with A and W added or not
 abbrev Marked : ℕ → ℕ → Type 0

@@ -1,18 +1,17 @@
 -- Unimplemented bits play no part: on stores that agree on the implemented bits each event goes the same way, and keeps them alike.
-use mathlib.Core.Path.{_≡_, refl, sym, _∙_, ap}
-use mathlib.Core.Bool.{Bool, true, false, cond, not, _&&_, _||_}
+use mathlib.Core.Path.{_≡_, refl, ap}
+use mathlib.Core.Bool.{Bool, true, false, cond, _||_}
 use mathlib.Core.List.{List}
-use Prim.Native.Nat.{ℕ, _+_, _*_, _/_, _%_, _^_, _<_, _≤_}
+use Prim.Native.Nat.{ℕ, _+_, _*_, _%_, _^_, _<_}
 use native.Mathlib.Omega.{arith}
 use lib.Dec.{eqb, ltb}
 use lib.Bits.{bitAnd, bitOr, or-comm, and-mask}
-use lib.ListN.{length, getD, set}
+use lib.ListN.{set}
 use borrow.Author.Tests.{lt-ltb, le-ltb, ltb-true}
 use Rattle.page.specs.Fields.{blockOf}
 use Rattle.page.specs.Length.{lengthError}
 use Rattle.page.specs.Sum.{byteOf}
-use Rattle.rules.specs.Keys.{keyOf}
-use Rattle.rules.specs.Words.{word, PDR, SR0, SR1, SR2, SR3, implemented, relocates, frozen, enablesD}
+use Rattle.rules.specs.Words.{word, PDR, SR0, SR1, SR2, SR3, implemented, relocates, frozen}
 use Rattle.rules.specs.Paper.{R}
 use Rattle.rules.specs.Addresses.{registerAt}
 use Rattle.rules.specs.References.{
@@ -33,7 +32,7 @@ use Rattle.rules.specs.References.{
   illegalMode,
   referred,
 }
-use Rattle.rules.specs.Registers.{readAt, writtenAt}
+use Rattle.rules.specs.Registers.{writtenAt}
 use Rattle.rules.specs.Others.{started, withChange, changeByte, noted, cleared}
 use Rattle.rules.specs.Refusals.{refusalOf}
 use Rattle.rules.specs.Step.{step, accepted}

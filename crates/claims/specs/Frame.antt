@@ -1,10 +1,10 @@
 -- What an event leaves alone: no event alters a word that document 01 does not name for it.
 use Prim.Native.Nat.{ℕ, _+_, _*_}
 use mathlib.Core.Path.{_≡_}
-use mathlib.Core.Bool.{Bool, false, cond, not, _||_, _&&_}
+use mathlib.Core.Bool.{Bool, false, not, _||_, _&&_}
 use mathlib.Core.List.{List}
 use lib.ListN.{length}
-use lib.Dec.{ltb, leb, eqb}
+use lib.Dec.{ltb, eqb}
 use lib.Bits.{bitOr}
 use Rattle.rules.specs.Words.{word, PDR, SR0, SR1, SR2, SR3, bit}
 use Rattle.rules.specs.Addresses.{registerAt}

@@ -1,5 +1,5 @@
 -- The starred readings of document 01, as one table: a store, an event, the answer, and words of the store afterwards.
-use Prim.Native.Nat.{ℕ, _+_}
+use Prim.Native.Nat.{ℕ}
 use mathlib.Core.Path.{_≡_}
 use mathlib.Core.Bool.{true, false}
 use mathlib.Core.List.{List, [], _∷_, map}

@@ -1,7 +1,7 @@
 -- An amount in range: its five bits are below 32, and are what the code computes by a cast.
 use mathlib.Core.Path.{_≡_, refl, ap, _∙_, sym}
 use mathlib.Core.Bool.{Bool, true, false, not, _&&_, false≢true, and-comm, and-true}
-use Prim.Native.Nat.{ℕ, suc, zero, _-_, _+_, _<_, _≤_, _^_}
+use Prim.Native.Nat.{ℕ, suc, _-_, _+_, _<_, _^_}
 use native.Mathlib.Omega.{arith}
 use lib.Dec.{ltb, leb, eqb, leb·suc-suc}
 use lib.IntN.{ℤ, pos, negsuc, _+ℤ_}
@@ -9,7 +9,7 @@ use lib.Signed.{ltZ, leZ}
 use mir.Syntax.{w32}
 use mir.Val.{SFits, toZ, ofZ}
 use mir.ValLaws.{toZ-ofZ}
-use borrow.Author.Tests.{ltb-true, ltb-false, le-ltb, ne-eqb}
+use borrow.Author.Tests.{ltb-true, le-ltb, ne-eqb}
 use Rattle.rules.proofs.Bools.{and-r}
 use Rattle.rules.specs.Others.{goodAmount, fiveBits}
 

@@ -1,10 +1,9 @@
 // A change of a general register, noted in SR1.
 
 ghost use mathlib.Core.Path.{_≡_};
-ghost use mathlib.Core.Bool.{true, false, not, _||_};
+ghost use mathlib.Core.Bool.{true, not};
 ghost use Prim.Native.Nat.{_<_, _≤_};
-ghost use lib.ListN.{length, getD};
-ghost use lib.Dec.{ltb};
+ghost use lib.ListN.{length};
 ghost use Rattle.rules.specs.Paper.{paper};
 ghost use Rattle.rules.specs.Words.{frozen};
 ghost use Rattle.rules.specs.Others.{goodAmount, fiveBits, changeByte};

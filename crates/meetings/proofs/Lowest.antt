@@ -1,8 +1,8 @@
 -- A pass over all pages finds the lowest shared block and its two pages, or none; and "apart" is answered exactly if the modes are.
-use mathlib.Core.Path.{_≡_, refl, sym, _∙_}
+use mathlib.Core.Path.{_≡_, refl}
 use mathlib.Core.Bool.{Bool, true, false, cond, not, _||_, _&&_, false≢true, true≢false}
 use mathlib.Core.List.{List}
-use Prim.Native.Nat.{ℕ, _+_, _≤_, _<_}
+use Prim.Native.Nat.{ℕ, _≤_, _<_}
 use native.Mathlib.Omega.{arith}
 use lib.Dec.{eqb, ltb}
 use lib.ListN.{length}
@@ -13,14 +13,13 @@ use Rattle.rules.specs.declared.Refusal.the-variants.{Store}
 use Rattle.widening.specs.Some.{some}
 use Rattle.widening.specs.Reaches.{pageReaches, pagesOf, reaches, shared, apart}
 use Rattle.meetings.specs.declared.Meeting.{Meeting}
-use Rattle.meetings.specs.declared.Parting.{Parting as Answer}
 use Rattle.meetings.specs.declared.Parting.the-variants.{Apart, Shared, Refused}
 use Rattle.meetings.specs.Firsts.{firstOf}
-use Rattle.meetings.specs.Parting.{lowestPage, meetingOf, meetingAt, partingOf, answer, ApartIs}
-use Rattle.meetings.specs.Pass.{Pass, start, pagesPass, wholePass}
+use Rattle.meetings.specs.Parting.{lowestPage, meetingAt, partingOf, answer, ApartIs}
+use Rattle.meetings.specs.Pass.{start, wholePass}
 use Rattle.meetings.proofs.First.{first-is, first-some}
 use Rattle.meetings.proofs.Tracks.{Two, Tracks, started}
-use Rattle.meetings.proofs.Passes.{passing, pages-track}
+use Rattle.meetings.proofs.Passes.{pages-track}
 use Rattle.meetings.proofs.Seconds.{first-in, pages-few, twoAt, two-modes}
 
 abbrev meeting : ℕ → ℕ → ℕ → Meeting

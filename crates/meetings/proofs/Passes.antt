@@ -1,11 +1,11 @@
 -- The passes hold what each page sees: a page's blocks together are one sight of each block that the page reaches.
-use mathlib.Core.Path.{_≡_, refl, sym}
+use mathlib.Core.Path.{_≡_, refl}
 use mathlib.Core.Bool.{Bool, true, false, cond, _||_}
 use mathlib.Core.List.{List}
 use Prim.Native.Nat.{ℕ, zero, suc, _+_, _-_, _/_, _≤_, _<_}
 use native.Mathlib.Omega.{arith}
 use lib.Dec.{eqb}
-use borrow.Author.Tests.{eqb-false, eq-eqb, ne-eqb}
+use borrow.Author.Tests.{eq-eqb, ne-eqb}
 use Rattle.page.specs.Sum.{memoryBlock}
 use Rattle.rules.specs.Keys.{keyOf, nonResident}
 use Rattle.rules.specs.Words.{word, PDR}

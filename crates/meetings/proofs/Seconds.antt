@@ -1,11 +1,11 @@
 -- The two of a block after all pages: of the modes that reach it the two lowest, each with its lowest page. The pages of a mode
 -- stand together, so a mode adds its lowest page as the first, or as the second, or not at all.
-use mathlib.Core.Path.{_≡_, refl, sym, _∙_}
-use mathlib.Core.Bool.{Bool, true, false, cond, _||_, _&&_}
+use mathlib.Core.Path.{_≡_, refl, _∙_}
+use mathlib.Core.Bool.{Bool, true, false, cond, _||_}
 use mathlib.Core.List.{List}
 use Prim.Native.Nat.{ℕ, zero, suc, _+_, _*_, _/_, _≤_, _<_}
 use native.Mathlib.Omega.{arith}
-use lib.Dec.{eqb, ltb}
+use lib.Dec.{eqb}
 use borrow.Author.Tests.{eq-eqb, ne-eqb, ltb-true}
 use Rattle.rules.specs.Words.{word, SR3, enablesD}
 use Rattle.rules.specs.References.{firstPage}

@@ -1,21 +1,14 @@
 -- What a pass holds, block by block: the first page that reached the block, and the first after it of another mode. The owners are
 -- the first of each block, and the lowest meeting is at the lowest block that has a second.
 use mathlib.Core.Path.{_≡_, refl, sym, _∙_}
-use mathlib.Core.Bool.{Bool, true, false, cond, _||_}
-use mathlib.Core.List.{List}
-use Prim.Native.Nat.{ℕ, zero, suc, _+_, _-_, _/_, _≤_, _<_}
+use mathlib.Core.Bool.{Bool, true, false, cond}
+use Prim.Native.Nat.{ℕ, _-_, _/_, _≤_, _<_}
 use native.Mathlib.Omega.{arith}
 use lib.Dec.{eqb, ltb}
-use lib.ListN.{length, getD, set, replicate, length-set, length-replicate, getD-replicate}
+use lib.ListN.{length, getD, set, length-set, length-replicate, getD-replicate}
 use lib.Seq.{getD-set-same, getD-set-other}
-use borrow.Author.Tests.{eqb-true, eqb-false, eq-eqb, ne-eqb, ltb-true, ltb-false}
-use Rattle.page.specs.Sum.{memoryBlock}
-use Rattle.rules.specs.Keys.{keyOf, nonResident}
-use Rattle.rules.specs.Words.{word, PDR}
-use Rattle.widening.specs.Some.{some}
-use Rattle.widening.specs.Reaches.{pageReaches}
-use Rattle.meetings.specs.Pass.{Pass, start, met, sighted, blocksPass, firstBlock, endBlock, pagePass, pagesPass}
-use Rattle.meetings.proofs.Allowed.{by-range}
+use borrow.Author.Tests.{eqb-true, eqb-false, ltb-true, ltb-false}
+use Rattle.meetings.specs.Pass.{Pass, start, met, sighted}
 
 -- a block's first page and its second, of another mode; 48 for none
 abbrev pub Two : Type 0

@@ -1,18 +1,16 @@
 -- A page reaches a block of memory exactly if the difference modulo 4096 is an allowed block of it.
-use mathlib.Core.Path.{_≡_, refl, sym, _∙_}
-use mathlib.Core.Bool.{Bool, true, false, cond, not, _&&_, and-eq-true-iff, false≢true}
+use mathlib.Core.Path.{_≡_}
+use mathlib.Core.Bool.{Bool, true, _&&_, and-eq-true-iff}
 use mathlib.Core.List.{List}
-use Prim.Native.Nat.{ℕ, _+_, _-_, _%_, _≤_, _<_}
+use Prim.Native.Nat.{ℕ, _+_, _-_, _%_, _<_}
 use native.Mathlib.Omega.{arith}
 use lib.Dec.{eqb, ltb}
-use borrow.Author.Tests.{eqb-true, eq-eqb, lt-ltb, le-ltb, ltb-true, ltb-false, not-true}
-use Rattle.page.specs.Fields.{baseOf, edOf, lengthOf}
-use Rattle.page.specs.Length.{lengthError}
+use borrow.Author.Tests.{eqb-true, eq-eqb, lt-ltb, ltb-true}
+use Rattle.page.specs.Fields.{baseOf}
 use Rattle.page.specs.Sum.{memoryBlock}
-use Rattle.rules.specs.Keys.{keyOf, nonResident}
 use Rattle.rules.specs.Words.{word, PDR}
 use Rattle.widening.specs.Some.{some}
-use Rattle.widening.specs.Reaches.{allows, liesIn, pageReaches}
+use Rattle.widening.specs.Reaches.{allows, pageReaches}
 use Rattle.widening.proofs.Reached.{some-found, some-holds}
 use Rattle.reach.specs.Reaching.{holds}
 use Rattle.reach.proofs.Ranges.{same-test}

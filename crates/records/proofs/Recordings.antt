@@ -7,7 +7,7 @@ use native.Mathlib.Omega.{arith}
 use lib.ListN.{length}
 use Rattle.rules.specs.declared.Event.{Event}
 use Rattle.records.specs.Records.{recordAt}
-use Rattle.records.specs.Recordings.{Records, event, end, refusal, before, recordsWithin, recordsFrom, EveryRecord}
+use Rattle.records.specs.Recordings.{Records, event, end, before, recordsWithin, recordsFrom, EveryRecord}
 use Rattle.records.specs.declared.Found.{Found}
 use Rattle.records.specs.declared.Found.the-variants.{Whole, Refused, End}
 use Rattle.records.proofs.Laws.{at-end, advances}

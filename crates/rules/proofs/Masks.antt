@@ -1,7 +1,7 @@
 -- Words under a mask: `and` is associative and goes over `or`, digit by digit; so what two words have in common under a mask
 -- they keep under further `and` and `or`, and they have each field in common that the mask keeps whole.
 use mathlib.Core.Path.{_≡_, refl, sym, _∙_, ap}
-use Prim.Native.Nat.{ℕ, zero, suc, _+_, _*_, _-_, _/_, _%_, _^_, _<_, min, max}
+use Prim.Native.Nat.{ℕ, zero, suc, _-_, _/_, _%_, _^_, _<_, min, max}
 use native.Mathlib.Nat.{pow-suc, mod-mod}
 use native.Mathlib.Omega.{arith}
 use lib.Bits.{bitAnd, bitOr, and-step, or-step, and-shr, or-shr, and-mod, or-mod, and-mask, and-comm, and-zero-r, or-zero-r}

@@ -1,7 +1,7 @@
 -- `paper` is one-to-one: an answer is read back from its letter and values.
 use Prim.Native.Nat.{ℕ}
 use mathlib.Core.Path.{_≡_, refl, sym, ap, _∙_}
-use mathlib.Core.List.{List, [], _∷_}
+use mathlib.Core.List.{[], _∷_}
 use lib.ListN.{getD}
 use Rattle.rules.specs.Paper.{Paper, G, A, R, D, X, number, paper, PaperOneToOne}
 use Rattle.rules.specs.declared.Answer.{Answer}

@@ -1,6 +1,6 @@
 -- The record's form and the store's form of a start agree: both go by the frozen test, and SR1 and SR2 are the words that change.
 use Prim.Native.Nat.{ℕ}
-use mathlib.Core.Path.{_≡_, refl, _∙_, ap}
+use mathlib.Core.Path.{_≡_, refl}
 use mathlib.Core.Bool.{Bool, true, false, cond}
 use mathlib.Core.List.{List}
 use native.Mathlib.Omega.{arith}
@@ -11,8 +11,6 @@ use Rattle.rules.specs.Words.{word, SR0, SR1, SR2, SR3, frozen}
 use Rattle.rules.specs.Others.{started}
 use Rattle.rules.specs.Refusals.{refusalOf}
 use Rattle.rules.specs.Step.{step, accepted}
-use Rattle.rules.specs.declared.Event.the-variants.{Instruction, Interrupt}
-use Rattle.status.specs.declared.Status.{Status}
 use Rattle.status.specs.Starts.{startedOf, statusOf, AsInTheStore}
 
 module _ (l : List ℕ) (n : ℕ) (whole : length l ≡ 100) where

@@ -4,10 +4,8 @@ use mathlib.Core.Path.{_≡_}
 use mathlib.Core.Bool.{cond}
 use mathlib.Core.List.{List}
 use lib.ListN.{length}
-use Rattle.rules.specs.Paper.{D}
 use Rattle.rules.specs.Words.{word, SR0, SR1, SR2, SR3, frozen}
 use Rattle.rules.specs.Step.{step}
-use Rattle.rules.specs.declared.Event.{Event}
 use Rattle.rules.specs.declared.Event.the-variants.{Instruction, Interrupt}
 use Rattle.status.specs.declared.Status.{Status}
 

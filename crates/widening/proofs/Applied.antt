@@ -2,16 +2,14 @@
 use Prim.Native.Nat.{ℕ}
 use mathlib.Core.Path.{_≡_, refl, sym, _∙_, ap}
 use mathlib.Core.Bool.{Bool}
-use mathlib.Core.List.{List, [], _∷_, _++_, append-assoc}
-use Rattle.rules.specs.Paper.{Paper, paper, G}
-use Rattle.rules.specs.Step.{step}
-use Rattle.rules.specs.declared.Answer.{Answer}
+use mathlib.Core.List.{List, _++_, append-assoc}
+use Rattle.rules.specs.Paper.{Paper}
 use Rattle.rules.specs.declared.Answer.the-variants.{Granted}
 use Rattle.rules.specs.declared.Reference.{Reference}
 use Rattle.rules.specs.declared.Event.{Event}
 use Rattle.rules.specs.declared.Event.the-variants.{Refer}
 use Rattle.rules.proofs.Papers.{paperOneToOne}
-use Rattle.widening.specs.LastMap.{inPhase, Granted as Given}
+use Rattle.widening.specs.LastMap.{Granted as Given}
 use Rattle.widening.specs.Runs.{after}
 use Rattle.widening.specs.Applied.{Applied, Ran, none, next, KeptByCalls, NeverSharedByCalls}
 use Rattle.widening.proofs.LastMap.{demand3}

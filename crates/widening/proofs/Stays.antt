@@ -12,7 +12,6 @@ use borrow.Author.Tests.{eqb-true, eqb-false}
 use Rattle.page.specs.Fields.{blockOf}
 use Rattle.page.specs.Length.{lengthError}
 use Rattle.page.specs.Sum.{byteOf}
-use Rattle.rules.specs.Paper.{Paper}
 use Rattle.rules.specs.Words.{word, PDR, SR0, SR1, SR2, SR3, relocates, frozen}
 use Rattle.rules.specs.References.{
   referred,

@@ -1,6 +1,6 @@
 -- The report as text, a line for each thing it says. Byte offsets are five decimal digits, blocks four octal ones, refusals two.
 use Prim.Native.Nat.{ℕ, _/_, _%_}
-use mathlib.Core.Bool.{Bool, cond}
+use mathlib.Core.Bool.{cond}
 use mathlib.Core.List.{List, [], _∷_, _++_}
 use lib.ListN.{length, drop}
 use lib.Dec.{ltb, eqb}
@@ -9,7 +9,6 @@ use Rattle.rules.specs.declared.Refusal.{Refusal}
 use Rattle.lines.specs.Digits.{digit, decimal, octal}
 use Rattle.auditing.specs.declared.Reason.{Reason}
 use Rattle.auditing.specs.declared.Reason.the-variants.{Init, WritesSr3, RelocationOff, ChangesPar, ChangesEd, Narrows, LosesRights}
-use Rattle.meetings.specs.declared.Meeting.{Meeting}
 use Rattle.meetings.specs.declared.Parting.{Parting}
 use Rattle.meetings.specs.declared.Parting.the-variants.{Apart, Shared, Refused as Unmapped}
 use Rattle.account.specs.declared.Kept.{Kept}

@@ -1,6 +1,5 @@
 // The lines of a report.
 
-ghost use mathlib.Core.Path.{_≡_};
 ghost use Prim.Native.Nat.{_+_, _≤_};
 ghost use lib.ListN.{length};
 ghost use Rattle.wording.specs.Wrote.{Wrote};

@@ -1,5 +1,5 @@
 -- `audit` meets its contract: 1 and 13 first; then the course of the run, and the map of the store that it leaves.
-use mathlib.Core.Path.{_≡_, refl, ap, sym, _∙_}
+use mathlib.Core.Path.{ap}
 use mathlib.Core.List.{List}
 use Prim.Native.Nat.{ℕ}
 use borrow.Author.Needs.{needs}

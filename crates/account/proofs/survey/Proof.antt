@@ -1,5 +1,5 @@
 -- `survey` meets its contract. The invariant: with what is carried, the run from the next record tells what the whole run tells.
-use mathlib.Core.Path.{_≡_, refl, ap, sym, _∙_}
+use mathlib.Core.Path.{_≡_, ap, sym, _∙_}
 use mathlib.Core.List.{List}
 use Prim.Native.Nat.{ℕ, _-_}
 use native.Mathlib.Omega.{arith}

@@ -1,5 +1,5 @@
 -- `widens` meets its contract: a write by its place, INIT, and every other event keeps the premises.
-use mathlib.Core.Path.{_≡_, refl, sym, _∙_}
+use mathlib.Core.Path.{refl, sym}
 use borrow.Author.Needs.{needs}
 use borrow.Author.Tests.{lt-ltb, le-ltb, ne-eqb}
 use Rattle.auditing.specs.Verdicts.{verdictOf}

@@ -2,7 +2,6 @@
 use mathlib.Core.Path.{refl}
 use lib.Dec.{lit≤}
 use borrow.Author.Tests.{ne-eqb}
-use borrow.Author.Needs.{needs}
 use Rattle.decode.specs.Parts.{firstOf}
 use Rattle.decode.proofs.first_page.Statement.{statement}
 use Rattle.decode.proofs.first_page.Tie as tie

@@ -1,6 +1,5 @@
 -- `status_at` meets its contract: each test is the definition's.
 use borrow.Author.Tests.{ne-eqb}
-use borrow.Author.Needs.{needs}
 use Rattle.decode.specs.Parts.{statusAt}
 use Rattle.decode.proofs.status_at.Statement.{statement}
 use Rattle.decode.proofs.status_at.Tie as tie

@@ -1,5 +1,5 @@
 -- `apart` meets its contract: the pages of the three modes one after the other are the whole pass, which finds the lowest shared block.
-use mathlib.Core.Path.{_≡_, ap, sym, _∙_}
+use mathlib.Core.Path.{ap, _∙_}
 use borrow.Author.Needs.{needs}
 use borrow.Author.Tests.{eq-eqb, ne-eqb}
 use Rattle.meetings.specs.Parting.{partingOf, answer}

@@ -1,7 +1,6 @@
 -- `sight_blocks` meets its contract. The invariant: the blocks that are left make of the present pass what all make of the first.
 use mathlib.Core.Path.{_≡_, refl, sym, _∙_}
 use Prim.Native.Nat.{_≤_, _-_}
-use native.Mathlib.Omega.{arith}
 use lib.ListN.{length}
 use borrow.Author.Needs.{needs}
 use Rattle.meetings.specs.Pass.{blocksPass}

@@ -1,5 +1,5 @@
 -- `sight_page` meets its contract: the table's line gives no read exactly to the keys 0, 3 and 7.
-use mathlib.Core.Path.{_≡_, sym, _∙_}
+use mathlib.Core.Path.{sym, _∙_}
 use borrow.Author.Needs.{needs}
 use Rattle.ruling.proofs.Keys.{absent}
 use Rattle.meetings.specs.Pass.{pagePass}

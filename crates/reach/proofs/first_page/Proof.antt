@@ -1,6 +1,6 @@
 -- `first_page` meets its contract: each branch is a case of the definition.
 use borrow.Author.Needs.{needs}
-use borrow.Author.Tests.{eq-eqb, ne-eqb}
+use borrow.Author.Tests.{ne-eqb}
 use Rattle.reach.proofs.first_page.Statement.{statement}
 use Rattle.reach.proofs.first_page.Tie as tie
 

@@ -1,6 +1,5 @@
 -- `reaches_block` meets its contract: 1 and 2, mode 2 and a high block first; then the mode's pages say what `reaches` says.
-use mathlib.Core.Path.{_≡_, sym, _∙_}
-use native.Mathlib.Omega.{arith}
+use mathlib.Core.Path.{sym, _∙_}
 use borrow.Author.Needs.{needs}
 use borrow.Author.Tests.{lt-ltb, le-ltb, eq-eqb, ne-eqb}
 use Rattle.reach.specs.Reaching.{reachingOf}

@@ -1,7 +1,6 @@
 -- `some_page` meets its contract. The invariant: what is left of the range says what the whole range says.
 use mathlib.Core.Path.{_≡_, refl, sym, _∙_}
 use Prim.Native.Nat.{_≤_, _-_}
-use native.Mathlib.Omega.{arith}
 use borrow.Author.Needs.{needs}
 use Rattle.widening.specs.Some.{some}
 use Rattle.widening.specs.Reaches.{pageReaches}

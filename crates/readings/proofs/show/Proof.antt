@@ -1,6 +1,5 @@
 -- The line that is written lies within its buffer.
 use mathlib.Core.Path.{sym}
-use native.Mathlib.Omega.{arith}
 use lib.Seq.{length-take-le}
 use borrow.Author.Needs.{needs}
 use Rattle.readings.proofs.show.Statement.{statement}

@@ -1,5 +1,4 @@
 -- `examined` meets its contract: the ruling by value, stored back, is the ruling over the store.
-use mathlib.Core.Path.{_≡_}
 use borrow.Author.Needs.{needs}
 use Rattle.rules.specs.References.{examined}
 use Rattle.references.proofs.Pages.{by-value}

@@ -1,5 +1,4 @@
 -- `place_of` meets its contract: modes begin where the definition says, and a page is below 8.
-use native.Mathlib.Omega.{arith}
 use borrow.Author.Needs.{needs}
 use Rattle.references.proofs.Modes.{first-page}
 use Rattle.references.proofs.place_of.Statement.{statement}

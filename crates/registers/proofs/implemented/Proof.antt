@@ -1,6 +1,5 @@
 -- `implemented` meets its contract: each branch is a case of the definition.
-use borrow.Author.Tests.{lt-ltb, le-ltb, eq-eqb, ne-eqb}
-use borrow.Author.Needs.{needs}
+use borrow.Author.Tests.{lt-ltb, le-ltb, ne-eqb}
 use Rattle.registers.proofs.implemented.Statement.{statement}
 use Rattle.registers.proofs.implemented.Tie as tie
 

@@ -1,6 +1,5 @@
 -- `taken` meets its contract: each branch is a case of the definition.
 use borrow.Author.Tests.{lt-ltb, le-ltb}
-use borrow.Author.Needs.{needs}
 use Rattle.registers.proofs.taken.Statement.{statement}
 use Rattle.registers.proofs.taken.Tie as tie
 

@@ -1,5 +1,5 @@
 -- `write_status` meets its contract: the two tests pick the case.
-use borrow.Author.Tests.{lt-ltb, le-ltb, eq-eqb, ne-eqb}
+use borrow.Author.Tests.{le-ltb, ne-eqb}
 use borrow.Author.Needs.{needs}
 use native.Mathlib.Omega.{arith}
 use Rattle.rules.specs.Registers.{writtenAt}

@@ -1,5 +1,4 @@
 -- `change_byte` meets its contract: it is the definition, by what `five_bits` ensures.
-use native.Mathlib.Omega.{arith}
 use mathlib.Core.Path.{_∙_, ap}
 use borrow.Author.Needs.{needs}
 use mir.Facts.{toZ-ofZ}

@@ -1,7 +1,6 @@
 -- `note_change` meets its contract: the refusals are tested in the order of their numbers, 10 by `enter`.
 use mathlib.Core.Path.{_≡_, sym, _∙_, ap}
 use mathlib.Core.Bool.{Bool}
-use native.Mathlib.Omega.{arith}
 use lib.IntN.{ℤ}
 use borrow.Author.Tests.{lt-ltb, le-ltb, eq-eqb, ne-eqb, not-true, not-false}
 use borrow.Author.Needs.{needs}

@@ -1,11 +1,11 @@
 -- `put` meets its contract. The invariant: the characters passed stand in the output.
-use mathlib.Core.Path.{_≡_, refl, _∙_}
+use mathlib.Core.Path.{_≡_, refl}
 use Prim.Native.Nat.{_≤_, _-_}
 use native.Mathlib.Omega.{arith}
 use lib.ListN.{length, take, length-set}
-use lib.Seq.{sets, length-sets}
+use lib.Seq.{sets}
 use borrow.Author.Needs.{needs}
-use Rattle.wording.proofs.Chain.{none-yet, one-more, all-copied}
+use Rattle.wording.proofs.Chain.{one-more, all-copied}
 use Rattle.wording.proofs.parts.put.Statement.{statement}
 use Rattle.wording.proofs.parts.put.Tie as tie
 
