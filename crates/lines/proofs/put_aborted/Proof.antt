@@ -7,21 +7,6 @@ use Rattle.lines.proofs.Places.{place}
 use Rattle.lines.proofs.put_aborted.Statement.{statement}
 use Rattle.lines.proofs.put_aborted.Tie as tie
 
-slice-write-out-2 : tie.Need-slice-write-out-2
-slice-write-out-2 c = simp length-set (omega arith)
-
-slice-write-out-3 : tie.Need-slice-write-out-3
-slice-write-out-3 c = simp length-set (omega arith)
-
-slice-write-out-4 : tie.Need-slice-write-out-4
-slice-write-out-4 c = simp length-set (omega arith)
-
-slice-write-out-5 : tie.Need-slice-write-out-5
-slice-write-out-5 c = simp length-set (omega arith)
-
-slice-write-out-6 : tie.Need-slice-write-out-6
-slice-write-out-6 c = simp length-set (omega arith)
-
 returns : tie.Need-returns
 unfolding lineOf
 returns c = let at = c .before .before .before .before .args .at in
@@ -33,17 +18,17 @@ put-aborted-spec =
     (tie.spec
     (λ c. search needs)
     (λ c. search needs)
-    slice-write-out-2
+    (λ c. simp length-set (omega arith))
     (λ c κs. search needs)
     (λ c. search needs)
-    slice-write-out-3
+    (λ c. simp length-set (omega arith))
     (λ c κs. search needs)
     (λ c. search needs)
-    slice-write-out-4
+    (λ c. simp length-set (omega arith))
     (λ c κs. search needs)
     (λ c. search needs)
-    slice-write-out-5
+    (λ c. simp length-set (omega arith))
     (λ c. search needs)
-    slice-write-out-6
+    (λ c. simp length-set (omega arith))
     (λ c. search needs)
     returns)

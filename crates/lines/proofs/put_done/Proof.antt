@@ -7,12 +7,9 @@ use borrow.Author.Needs.{needs}
 use Rattle.lines.proofs.put_done.Statement.{statement}
 use Rattle.lines.proofs.put_done.Tie as tie
 
-slice-write-out-2 : tie.Need-slice-write-out-2
-slice-write-out-2 c = simp length-set (omega arith)
-
 returns : tie.Need-returns
 unfolding lineOf
 returns c = rw add-one
 
 pub put-done-spec : {M : Type 1} → statement M
-put-done-spec = tie.close (tie.spec (λ c. search needs) (λ c. search needs) slice-write-out-2 (λ c. search needs) returns)
+put-done-spec = tie.close (tie.spec (λ c. search needs) (λ c. search needs) (λ c. simp length-set (omega arith)) (λ c. search needs) returns)

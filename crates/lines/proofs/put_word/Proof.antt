@@ -7,9 +7,6 @@ use borrow.Author.Needs.{needs}
 use Rattle.lines.proofs.put_word.Statement.{statement}
 use Rattle.lines.proofs.put_word.Tie as tie
 
-slice-write-out-2 : tie.Need-slice-write-out-2
-slice-write-out-2 c = simp length-set (omega arith)
-
 put-octal-requires : tie.Need-put-octal-requires
 put-octal-requires c κs = simp length-set (omega arith)
 
@@ -30,7 +27,7 @@ put-word-spec =
     (tie.spec
     (λ c. search needs)
     (λ c. search needs)
-    slice-write-out-2
+    (λ c. simp length-set (omega arith))
     (λ c. search needs)
     put-octal-requires
     (λ c. search needs)

@@ -6,12 +6,6 @@ use Rattle.registers.proofs.OnePath.{one-path}
 use Rattle.registers.proofs.write_page.Statement.{statement}
 use Rattle.registers.proofs.write_page.Tie as tie
 
-slice-read-s : tie.Need-slice-read-s
-slice-read-s c = simp length-set (omega arith)
-
-slice-write-s-2 : tie.Need-slice-write-s-2
-slice-write-s-2 c = simp length-set (omega arith)
-
 returns : tie.Need-returns
 returns c = rw (c .before .taken .ensures) (one-path _ _ _ (c .before .before .before .pre .0) (c .before .before .before .pre .1))
 
@@ -24,8 +18,8 @@ write-page-spec =
     (λ c. search needs)
     (λ c. search needs)
     (λ c. search needs)
-    slice-read-s
+    (λ c. simp length-set (omega arith))
     (λ c. search needs)
-    slice-write-s-2
+    (λ c. simp length-set (omega arith))
     (λ c. search needs)
     returns)
