@@ -6,42 +6,14 @@ use Prim.Native.Nat.{ℕ}
 use native.Mathlib.Omega.{arith}
 use lib.Dec.{eqb}
 use borrow.Author.Tests.{eqb-false, ne-eqb}
-use Rattle.rules.specs.Paper.{Paper, G, A, R, D, X}
-use Rattle.rules.specs.References.{ruled, examined, illegalMode, referred}
+use Rattle.rules.specs.Paper.{Paper, X}
 use Rattle.rules.specs.Refusals.{conditions, lowest, refusalOf}
 use Rattle.rules.specs.Step.{step, accepted}
-use Rattle.rules.specs.declared.Reference.{Reference}
 use Rattle.rules.specs.declared.Event.{Event}
 use Rattle.rules.specs.declared.Event.the-variants.{Refer, Read, Write, Instruction, Interrupt, Change, Init}
 use Rattle.claims.specs.Demand1.{Lowest, RefusedKeeps, Demand1}
-use Rattle.rules.proofs.Bools.{cond-first, cond-same}
+use Rattle.rules.proofs.Answered.{refuses, accepted-answers, answered}
 use Rattle.claims.proofs.Lowest.{rising, absent, first-lowest, lowest-first}
-
--- the letter of an answer that is no refusal
-refuses : Paper → Bool
-refuses (G byte trap) = false
-refuses (A n e o) = false
-refuses (R w) = false
-refuses D = false
-refuses (X n) = true
-
-cond-refuses : (x : Bool) (p q : Paper) → refuses (cond x p q) ≡ cond x (refuses p) (refuses q)
-cond-refuses true p q = refl
-cond-refuses false p q = refl
-
-referred-answers : (l : List ℕ) (r : Reference) → refuses (referred l r .0) ≡ false
-unfolding refuses referred illegalMode examined ruled
-referred-answers l r = simp (cond-first, cond-refuses, cond-same)
-
-accepted-answers : (l : List ℕ) (e : Event) → refuses (accepted l e .0) ≡ false
-unfolding refuses accepted
-accepted-answers l (Refer r) = referred-answers l r
-accepted-answers l (Read address) = refl
-accepted-answers l (Write address value) = refl
-accepted-answers l (Instruction va) = refl
-accepted-answers l (Interrupt vector) = refl
-accepted-answers l (Change register amount) = refl
-accepted-answers l Init = refl
 
 rises : (l : List ℕ) (e : Event) → rising 0 (conditions l e) ≡ true
 rises l (Refer r) = refl
@@ -89,4 +61,4 @@ keeps l e n h =
     number-is (eqb k 0) k n (accepted l e) l refl (accepted-answers l e) h .1
 
 pub demand1 : Demand1
-demand1 = record { exactly = λ l e n. (there l e n, back l e n); keeps = keeps }
+demand1 = record { answered = answered; exactly = λ l e n. (there l e n, back l e n); keeps = keeps }

@@ -4,10 +4,15 @@ use mathlib.Core.Path.{_≡_}
 use mathlib.Core.Logic.{_↔_}
 use mathlib.Core.Bool.{true, false}
 use mathlib.Core.List.{List}
-use Rattle.rules.specs.Paper.{X}
+use Rattle.rules.specs.Paper.{X, paper}
 use Rattle.rules.specs.Refusals.{Conditions, conditions, holds}
 use Rattle.rules.specs.Step.{step}
+use Rattle.rules.specs.declared.Answer.{Answer}
 use Rattle.rules.specs.declared.Event.{Event}
+
+-- what an event comes to is an answer's letter and values
+abbrev pub Answered : Type 0
+Answered = (l : List ℕ) (e : Event) → (a : Answer) × (paper a ≡ step l e .0)
 
 -- n is the lowest number whose condition holds
 pub record Lowest (n : ℕ) (cs : Conditions) : Type 0 where
@@ -23,5 +28,6 @@ abbrev pub RefusedKeeps : Type 0
 RefusedKeeps = (l : List ℕ) (e : Event) (n : ℕ) → step l e .0 ≡ X n → step l e .1 ≡ l
 
 pub record Demand1 : Type 0 where
+  pub answered : Answered
   pub exactly : RefusedExactly
   pub keeps : RefusedKeeps

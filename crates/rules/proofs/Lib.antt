@@ -4,3 +4,4 @@ pub mod Outcomes
 pub mod Bools
 pub mod Masks
 pub mod Length
+pub mod Answered

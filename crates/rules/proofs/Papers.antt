@@ -23,7 +23,7 @@ use Rattle.rules.specs.declared.Refusal.the-variants.{
   Long,
 }
 
-numbered : ℕ → Refusal
+unfoldable pub numbered : ℕ → Refusal
 numbered n =
     getD
     (Store ∷ Store ∷ Mode ∷ Space ∷ Access ∷ Phase ∷ High ∷ Odd ∷ NoRegister ∷ BadChange ∷ Full ∷ Kind ∷ Cut ∷ Long ∷ [])

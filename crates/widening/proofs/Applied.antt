@@ -2,22 +2,28 @@
 use Prim.Native.Nat.{ℕ}
 use mathlib.Core.Path.{_≡_, refl, sym, _∙_, ap}
 use mathlib.Core.Bool.{Bool}
-use mathlib.Core.List.{List, _++_, append-assoc}
+use mathlib.Core.List.{List, [], _∷_, _++_, append-assoc}
 use Rattle.rules.specs.Paper.{Paper}
+use Rattle.rules.specs.Step.{step}
 use Rattle.rules.specs.declared.Answer.the-variants.{Granted}
 use Rattle.rules.specs.declared.Reference.{Reference}
 use Rattle.rules.specs.declared.Event.{Event}
 use Rattle.rules.specs.declared.Event.the-variants.{Refer}
 use Rattle.rules.proofs.Papers.{paperOneToOne}
+use Rattle.rules.proofs.Answered.{answered}
 use Rattle.widening.specs.LastMap.{Granted as Given}
 use Rattle.widening.specs.Runs.{after}
-use Rattle.widening.specs.Applied.{Applied, Ran, none, next, KeptByCalls, NeverSharedByCalls}
+use Rattle.widening.specs.Applied.{Applied, Ran, none, next, AlwaysRuns, KeptByCalls, NeverSharedByCalls}
 use Rattle.widening.proofs.LastMap.{demand3}
 
 -- the store that calls come to is the run's
 came-to : {l m : List ℕ} {es : List Event} → Ran l es m → m ≡ after l es
 came-to none = refl
 came-to (next {es} e a h r) = came-to r ∙ ap (λ (k : List ℕ). after k es) (ap (λ (o : Paper × List ℕ). o .1) h)
+
+pub alwaysRuns : AlwaysRuns
+alwaysRuns l [] = none
+alwaysRuns l (e ∷ es) = let q = answered l e in next {l = l} {k = step l e .1} e (q .0) (rw (q .1)) (alwaysRuns (step l e .1) es)
 
 -- calls one after the other, and then more of them
 together : {l m n : List ℕ} {es fs : List Event} → Ran l es m → Ran m fs n → Ran l (es ++ fs) n

@@ -13,7 +13,7 @@ use Rattle.rules.specs.declared.Event.{Event}
 use Rattle.rules.specs.declared.Event.the-variants.{Refer}
 use Rattle.widening.specs.LastMap.{On, inPhase}
 use Rattle.widening.specs.Reaches.{apart}
-use Rattle.widening.specs.Runs.{calm}
+use Rattle.widening.specs.Runs.{after, calm}
 
 -- a call that answers a, and takes the store l to m
 abbrev pub Applied : List ℕ → Event → Answer → List ℕ → Type 0
@@ -23,6 +23,10 @@ Applied l e a m = (paper a, m) ≡ step l e
 pub data Ran : List ℕ → List Event → List ℕ → Type 0 where
   none : {l : List ℕ} → Ran l [] l
   next : {l k m : List ℕ} {es : List Event} (e : Event) (a : Answer) → Applied l e a k → Ran k es m → Ran l (e ∷ es) m
+
+-- any events can be called one after the other, from any store, and the store comes to be the run's
+abbrev pub AlwaysRuns : Type 0
+AlwaysRuns = (l : List ℕ) (es : List Event) → Ran l es (after l es)
 
 -- what a call granted once, any later call for it grants again at the same byte
 abbrev pub KeptByCalls : Type 0

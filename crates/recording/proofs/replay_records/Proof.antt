@@ -93,9 +93,10 @@ returns-3 c =
 
 add-written : tie.Need-add-written Inv-loop μ-loop
 add-written c =
-    let loop = c .before .before .before .before .before .before .before .before .before .before .before .before .before .before .loop in
-    let found = sym (c .before .before .before .before .before .before .before .before .before .before .before .before .before .read .ensures) ∙ c .before .before .before .before .before .before .before .before .before .before .before .found2 .given .1 in
-    let next = takes _ _ _ _ _ _ _ _ _ found (loop .inv .1 .1) _ _ _ (c .before .before .before .before .before .before .take-event .ensures) (c .if1 .left) in
+    let at-take-event = c .before .before .before .before .before .before in
+    let at-read = at-take-event .before .before .before .before .before .before .before in
+    let found = sym (at-read .read .ensures) ∙ at-take-event .before .before .before .before .before .found2 .given .1 in
+    let next = takes _ _ _ _ _ _ _ _ _ found (at-read .before .loop .inv .1 .1) _ _ _ (at-take-event .take-event .ensures) (c .if1 .left) in
     omega (arith, next .within, next .size)
 
 loop-less : tie.Need-loop-less Inv-loop μ-loop
