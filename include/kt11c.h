@@ -11,7 +11,8 @@
  * other than 100, get an answer.
  *
  * Every call but kt11c_replay, at the end, answers one number. Its top four bits say what it is:
- *     1  granted   bits 17:0 are the byte; bit 24 is set if the reference traps
+ *     1  granted   bits 17:0 are the byte; bit 24 is set if the reference traps; bits 23:18 are the place of the page
+ *                  that served, 0 to 47 counted as in the store, or 63 for none: relocation is off
  *     2  aborted   bit 2 non-resident, bit 1 length, bit 0 read-only
  *     3  a word    bits 15:0
  *     4  done
@@ -44,6 +45,8 @@ extern "C" {
 
 #define KT11C_BYTE(answer) ((answer) & 0x3ffffu)
 #define KT11C_TRAP(answer) (((answer) >> 24) & 1u)
+#define KT11C_PLACE(answer) (((answer) >> 18) & 0x3fu)
+#define KT11C_NO_PAGE 63u
 #define KT11C_NONRESIDENT(answer) (((answer) >> 2) & 1u)
 #define KT11C_LENGTH(answer) (((answer) >> 1) & 1u)
 #define KT11C_READONLY(answer) ((answer) & 1u)

@@ -12,11 +12,17 @@ const WORD: u32 = 3 << 28;
 const DONE: u32 = 4 << 28;
 const REFUSED: u32 = 5 << 28;
 
+/// In a grant's place bits: no page served.
+const NO_PAGE: u8 = 63;
+
 /// The number of an answer.
 #[inline(always)]
 pub fn encode(answer: Answer) -> u32 {
     match answer {
-        Answer::Granted { byte, trap } => GRANTED | u32::from(trap) << 24 | byte,
+        Answer::Granted { byte, page, trap } => {
+            let place = u32::from(page.unwrap_or(NO_PAGE));
+            GRANTED | u32::from(trap) << 24 | place << 18 | byte
+        }
         Answer::Aborted {
             nonresident,
             length,
@@ -33,6 +39,10 @@ pub fn decode(code: u32) -> Result<Answer, Stray> {
     let answer = match code & 0xf000_0000 {
         GRANTED => Answer::Granted {
             byte: code & 0o777777,
+            page: match (code >> 18) as u8 & 0o77 {
+                NO_PAGE => None,
+                place => Some(place),
+            },
             trap: code >> 24 & 1 == 1,
         },
         ABORTED => Answer::Aborted {
@@ -52,9 +62,10 @@ pub fn decode(code: u32) -> Result<Answer, Stray> {
     }
 }
 
-/// An abort has a flag, and an event's refusal is 1 to 10.
+/// A page is one of the 48, an abort has a flag, and an event's refusal is 1 to 10.
 fn has_meaning(answer: Answer) -> bool {
     match answer {
+        Answer::Granted { page, .. } => matches!(page, None | Some(0..48)),
         Answer::Aborted {
             nonresident,
             length,
@@ -71,11 +82,11 @@ mod tests {
 
     #[test]
     fn numbers_of_the_header() {
-        let trapped = Answer::Granted {
-            byte: 0o777777,
-            trap: true,
-        };
-        assert_eq!(decode(0x1103_ffff), Ok(trapped));
+        let granted = |byte, page, trap| Answer::Granted { byte, page, trap };
+        let last = granted(0o777777, Some(47), true);
+        assert_eq!(decode(0x11bf_ffff), Ok(last));
+        assert_eq!(decode(0x1000_0000), Ok(granted(0, Some(0), false)));
+        assert_eq!(decode(0x10fc_0000), Ok(granted(0, None, false)));
         assert_eq!(decode(0x3000_7f06), Ok(Answer::Word(0o077406)));
         assert_eq!(decode(0x4000_0000), Ok(Answer::Done));
         assert_eq!(decode(0x5000_000a), Ok(Answer::Refused(10)));
@@ -85,7 +96,8 @@ mod tests {
     fn stray_bits_are_no_answer() {
         for code in [
             0x0000_0000,
-            0x1004_0000,
+            0x10c0_0000,
+            0x10f8_0000,
             0x1200_0000,
             0x2000_0000,
             0x2000_0008,

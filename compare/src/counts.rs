@@ -1,6 +1,8 @@
 //! The counts of met edges as text.
 
 use crate::edges::{Counts, EDGES};
+use crate::fields::PDR;
+use crate::print::server_text;
 
 const ANSWERS: [&str; 5] = [
     "granted, no trap",
@@ -28,6 +30,10 @@ impl Counts {
                     rows.push((format!("{words} granted"), *granted));
                 }
             }
+        }
+        for (place, count) in self.pages.iter().enumerate() {
+            let page = (place < PDR).then_some(place as u8);
+            rows.push((format!("granted, {}", server_text(page)), *count));
         }
         for (words, count) in EDGES.iter().zip(self.edges) {
             rows.push((words.to_string(), count));

@@ -81,6 +81,8 @@ pub struct Counts {
     pub refusals: [u64; 11],
     /// By key, access, and whether granted.
     pub keys: [[[u64; 2]; 2]; 8],
+    /// Grants by the page that served, and last by none.
+    pub pages: [u64; PDR + 1],
     pub edges: [u64; EDGES.len()],
 }
 
@@ -90,6 +92,7 @@ impl Counts {
             answers: [0; 5],
             refusals: [0; 11],
             keys: [[[0; 2]; 2]; 8],
+            pages: [0; PDR + 1],
             edges: [0; EDGES.len()],
         }
     }
@@ -101,7 +104,10 @@ impl Counts {
     /// Counts one event by the store before it and the answer.
     pub fn add(&mut self, store: &[u16], event: Event, answer: Answer) {
         match answer {
-            Answer::Granted { trap, .. } => self.answers[usize::from(trap)] += 1,
+            Answer::Granted { page, trap, .. } => {
+                self.answers[usize::from(trap)] += 1;
+                self.pages[page.map_or(PDR, usize::from)] += 1;
+            }
             Answer::Aborted { .. } => self.answers[2] += 1,
             Answer::Word(_) => self.answers[3] += 1,
             Answer::Done => self.answers[4] += 1,
@@ -223,7 +229,7 @@ impl Counts {
         let is_granted = matches!(answer, Answer::Granted { .. });
         self.keys[usize::from(key)][access as usize][usize::from(is_granted)] += 1;
         match answer {
-            Answer::Granted { byte, trap } => {
+            Answer::Granted { byte, trap, .. } => {
                 let inside = in_registers(byte);
                 let beside =
                     !inside && (in_registers(byte + 2) || in_registers(byte - byte.min(2)));

@@ -28,9 +28,11 @@ pub fn event_text(event: Event) -> String {
 
 pub fn answer_text(answer: Answer) -> String {
     match answer {
-        Answer::Granted { byte, trap } => {
-            format!("granted {byte:06o}{}", if trap { " trap" } else { "" })
-        }
+        Answer::Granted { byte, page, trap } => format!(
+            "granted {byte:06o}{}, {}",
+            if trap { " trap" } else { "" },
+            server_text(page)
+        ),
         Answer::Aborted {
             nonresident,
             length,
@@ -44,6 +46,14 @@ pub fn answer_text(answer: Answer) -> String {
         Answer::Word(word) => format!("word {word:06o}"),
         Answer::Done => "done".to_string(),
         Answer::Refused(number) => format!("refused {number}"),
+    }
+}
+
+/// The page that served a grant, as `page 47`.
+pub fn server_text(page: Option<u8>) -> String {
+    match page {
+        Some(place) => format!("page {place}"),
+        None => "no page".to_string(),
     }
 }
 

@@ -1,9 +1,9 @@
-//! 01's readings, worked out by hand: what is in the store, what happens, what
-//! is answered, and which words are other than before.
+//! 01's readings, and some of request E1, worked out by hand: what is in the store,
+//! what happens, what is answered, and which words are other than before.
 
 use peer::{Answer, Event};
 
-use crate::fields::{PDR, SR0, SR1};
+use crate::fields::{PDR, SR0, SR1, SR3};
 use crate::history::Pair;
 use crate::print::answer_text;
 
@@ -55,12 +55,22 @@ pub fn reference(mode: u32, space: u32, access: u32, phase: u32, va: u16) -> Eve
     }
 }
 
-pub fn granted(byte: u32) -> Answer {
-    Answer::Granted { byte, trap: false }
+/// A grant by the page at a place.
+pub fn granted(byte: u32, place: u8) -> Answer {
+    grant(byte, Some(place), false)
 }
 
-pub fn trapped(byte: u32) -> Answer {
-    Answer::Granted { byte, trap: true }
+pub fn trapped(byte: u32, place: u8) -> Answer {
+    grant(byte, Some(place), true)
+}
+
+/// A grant of rule 1, by no page.
+pub fn unrelocated(byte: u32) -> Answer {
+    grant(byte, None, false)
+}
+
+fn grant(byte: u32, page: Option<u8>, trap: bool) -> Answer {
+    Answer::Granted { byte, page, trap }
 }
 
 pub fn aborted(nonresident: bool, length: bool, readonly: bool) -> Answer {
@@ -77,6 +87,7 @@ pub fn readings() -> Vec<Reading> {
     all.extend(lengths());
     all.extend(two_flags());
     all.extend(status());
+    all.extend(servers());
     all
 }
 
@@ -87,27 +98,27 @@ fn addresses() -> Vec<Reading> {
         reading(
             "PAR 3456, VA 167456: byte 355256",
             &top(0o3456),
-            vec![step(kernel(READ, 0o167456), granted(0o355256), &[])],
+            vec![step(kernel(READ, 0o167456), granted(0o355256, 7), &[])],
         ),
         reading(
             "PAR 7777, VA 000100: byte 000000",
             &[on, (0, 0o7777), (PDR, 0o077406)],
-            vec![step(kernel(READ, 0o000100), granted(0o000000), &[])],
+            vec![step(kernel(READ, 0o000100), granted(0o000000, 0), &[])],
         ),
         reading(
             "relocation off: 157777 stays",
             &[],
-            vec![step(kernel(READ, 0o157777), granted(0o157777), &[])],
+            vec![step(kernel(READ, 0o157777), unrelocated(0o157777), &[])],
         ),
         reading(
             "relocation off: 160000 gives 760000",
             &[],
-            vec![step(kernel(READ, 0o160000), granted(0o760000), &[])],
+            vec![step(kernel(READ, 0o160000), unrelocated(0o760000), &[])],
         ),
         reading(
             "PAR 7600, VA 172340, key 6, write: byte 772340, W stays clear",
             &top(0o7600),
-            vec![step(kernel(WRITE, 0o172340), granted(0o772340), &[])],
+            vec![step(kernel(WRITE, 0o172340), granted(0o772340, 7), &[])],
         ),
     ]
 }
@@ -122,7 +133,7 @@ fn lengths() -> Vec<Reading> {
             "ED 0, length 051: VA 005177 granted, 005200 aborted",
             &page(up),
             vec![
-                step(kernel(READ, 0o005177), granted(0o005177), &[]),
+                step(kernel(READ, 0o005177), granted(0o005177, 0), &[]),
                 step(kernel(READ, 0o005200), past, &[(SR0, 0o040001)]),
             ],
         ),
@@ -130,7 +141,7 @@ fn lengths() -> Vec<Reading> {
             "ED 1, length 126: VA 012600 granted, 012577 aborted",
             &page(down),
             vec![
-                step(kernel(READ, 0o012600), granted(0o012600), &[]),
+                step(kernel(READ, 0o012600), granted(0o012600, 0), &[]),
                 step(kernel(READ, 0o012577), past, &[(SR0, 0o040001)]),
             ],
         ),
@@ -139,7 +150,7 @@ fn lengths() -> Vec<Reading> {
             &page(0o000006),
             all_blocks()
                 .map(|va| match va {
-                    0 => step(kernel(READ, va), granted(0), &[]),
+                    0 => step(kernel(READ, va), granted(0, 0), &[]),
                     _ => step(kernel(READ, va), past, &[(SR0, 0o040001)]),
                 })
                 .collect(),
@@ -148,7 +159,7 @@ fn lengths() -> Vec<Reading> {
             "length 0, ED 1 allows all",
             &page(0o000016),
             all_blocks()
-                .map(|va| step(kernel(READ, va), granted(u32::from(va)), &[]))
+                .map(|va| step(kernel(READ, va), granted(u32::from(va), 0), &[]))
                 .collect(),
         ),
     ]
@@ -200,7 +211,7 @@ fn status() -> Vec<Reading> {
             &[(SR0, 0o001001), (user_3, 0o077404)],
             vec![step(
                 reference(3, 0, READ, 0, 0o060000),
-                trapped(0),
+                trapped(0, 35),
                 &[(SR0, 0o011147), (user_3, 0o077604)],
             )],
         ),
@@ -216,6 +227,29 @@ fn status() -> Vec<Reading> {
             "SR0 holding 0, write 177777: 171401",
             &[],
             vec![step(all_ones, Answer::Done, &[(SR0, 0o171401)])],
+        ),
+    ]
+}
+
+/// Request E1: the page that served.
+fn servers() -> Vec<Reading> {
+    let on = (SR0, 0o000001);
+    let data = reference(3, 1, READ, 0, 0o160000);
+    vec![
+        reading(
+            "data, D enabled for User: User D 7, place 47",
+            &[on, (SR3, 0o000001), (PDR + 47, 0o077406)],
+            vec![step(data, granted(0, 47), &[])],
+        ),
+        reading(
+            "data, D enabled for the others only: User I 7, place 39",
+            &[on, (SR3, 0o000016), (PDR + 39, 0o077406)],
+            vec![step(data, granted(0, 39), &[])],
+        ),
+        reading(
+            "relocation off, mode 2: no page",
+            &[(PDR, 0o077406)],
+            vec![step(reference(2, 0, READ, 0, 0), unrelocated(0), &[])],
         ),
     ]
 }

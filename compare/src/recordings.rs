@@ -69,8 +69,8 @@ pub fn whole_case() -> Vec<u8> {
     ]
 }
 
-/// The text that 01 gives for it.
-pub const WHOLE_CASE_TEXT: &str = "D\nD\nD\nG 355256 -\nR 077406\n";
+/// The text that 01 gives for it, with the page of request E1.
+pub const WHOLE_CASE_TEXT: &str = "D\nD\nD\nG 355256 - 07\nR 077406\n";
 
 /// A recording: mostly some hundreds of records, whole or damaged.
 pub fn recording(random: &mut Random) -> Vec<u8> {

@@ -29,7 +29,7 @@ pub fn whole_case() -> Reading {
                 &[(PDR + 7, 0o077406)],
             ),
             step(write(0o777572, 0o000001), Answer::Done, &[ON]),
-            step(kernel(READ, 0o167456), granted(0o355256), &[]),
+            step(kernel(READ, 0o167456), granted(0o355256, 7), &[]),
             step(read, Answer::Word(0o077406), &[]),
         ],
     )
@@ -50,7 +50,7 @@ fn downward_length() -> Reading {
             .map(|block| match block {
                 0o126.. => step(
                     kernel(READ, block << 6),
-                    granted(u32::from(block) << 6),
+                    granted(u32::from(block) << 6, 0),
                     &[],
                 ),
                 _ => step(
@@ -88,7 +88,7 @@ fn bit_9() -> Reading {
         &[ON, (PDR, 0o077405)],
         vec![step(
             kernel(WRITE, 0o000100),
-            granted(0o000100),
+            granted(0o000100, 0),
             &[(PDR, 0o077705)],
         )],
     )
@@ -101,13 +101,13 @@ fn trap_freezes() -> Reading {
         "slip: a trap does not freeze",
         &[ON_WITH_TRAPS, (PDR, 0o077404), (PDR + 5, 0o077401)],
         vec![
-            step(kernel(READ, 0), trapped(0), &[(SR0, 0o011001), page_0]),
+            step(kernel(READ, 0), trapped(0, 0), &[(SR0, 0o011001), page_0]),
             step(
                 Event::Instruction { va: 0o001234 },
                 Answer::Done,
                 &[(SR2, 0o001234)],
             ),
-            step(second, trapped(0), &[(SR0, 0o011213), page_5]),
+            step(second, trapped(0, 5), &[(SR0, 0o011213), page_5]),
         ],
     )
 }

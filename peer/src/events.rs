@@ -35,8 +35,16 @@ pub enum Event {
 /// The answer to one event.
 #[derive(Clone, Copy, Debug, PartialEq, Eq)]
 pub enum Answer {
-    /// The physical byte, and whether the grant says "trap".
-    Granted { byte: u32, trap: bool },
+    /// A grant.
+    Granted {
+        /// The physical byte.
+        byte: u32,
+        /// Request E1: the place among the 48, 0 to 47, of the page that
+        /// served; `None` where rule 1 grants.
+        page: Option<u8>,
+        /// Whether the grant says "trap".
+        trap: bool,
+    },
     /// An abort, with each flag by its own test.
     Aborted {
         nonresident: bool,

@@ -1,4 +1,5 @@
-//! The KT11-C memory management unit of a PDP-11/45, as document 01 defines it.
+//! The KT11-C memory management unit of a PDP-11/45, as document 01 and request
+//! E1 (a grant says which page served) define it.
 //!
 //! The caller lends a register store of 100 sixteen-bit words; every operation
 //! answers with an [`Answer`] and changes that store only as 01 says. "Rule 4"

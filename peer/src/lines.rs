@@ -5,10 +5,14 @@ use crate::events::Answer;
 /// Appends an answer's line, line feed included.
 pub fn push_line(text: &mut Vec<u8>, answer: Answer) {
     match answer {
-        Answer::Granted { byte, trap } => {
+        Answer::Granted { byte, page, trap } => {
             let [a, b, c, d, e, f] = octal(byte);
             let trap = if trap { b'T' } else { b'-' };
-            text.extend_from_slice(&[b'G', b' ', a, b, c, d, e, f, b' ', trap, b'\n']);
+            // Request E1: the page's place, or `--` where there is none.
+            let [tens, ones] = page.map_or([b'-'; 2], decimal);
+            text.extend_from_slice(&[
+                b'G', b' ', a, b, c, d, e, f, b' ', trap, b' ', tens, ones, b'\n',
+            ]);
         }
         Answer::Aborted {
             nonresident,
@@ -24,7 +28,7 @@ pub fn push_line(text: &mut Vec<u8>, answer: Answer) {
         }
         Answer::Done => text.extend_from_slice(b"D\n"),
         Answer::Refused(number) => {
-            let (tens, ones) = (b'0' + number / 10, b'0' + number % 10);
+            let [tens, ones] = decimal(number);
             text.extend_from_slice(&[b'X', b' ', tens, ones, b'\n']);
         }
     }
@@ -33,6 +37,11 @@ pub fn push_line(text: &mut Vec<u8>, answer: Answer) {
 /// Six octal digits of an 18-bit number.
 fn octal(number: u32) -> [u8; 6] {
     [15, 12, 9, 6, 3, 0].map(|shift| b'0' + (number >> shift & 7) as u8)
+}
+
+/// Two decimal digits of a number below 100.
+fn decimal(number: u8) -> [u8; 2] {
+    [b'0' + number / 10, b'0' + number % 10]
 }
 
 #[cfg(test)]
@@ -46,12 +55,16 @@ mod tests {
         assert_eq!(text, expected.as_bytes());
     }
 
+    fn granted(byte: u32, page: Option<u8>, trap: bool) -> Answer {
+        Answer::Granted { byte, page, trap }
+    }
+
     #[test]
     fn each_answer_has_its_line() {
-        let granted = |byte, trap| Answer::Granted { byte, trap };
-        line(granted(0o355256, false), "G 355256 -\n");
-        line(granted(0o000007, true), "G 000007 T\n");
-        line(granted(0o777777, true), "G 777777 T\n");
+        line(granted(0o355256, Some(7), false), "G 355256 - 07\n");
+        line(granted(0o000007, Some(12), true), "G 000007 T 12\n");
+        line(granted(0o777777, Some(47), true), "G 777777 T 47\n");
+        line(granted(0o760000, None, false), "G 760000 - --\n");
         let aborted = |nonresident, length, readonly| Answer::Aborted {
             nonresident,
             length,
@@ -64,5 +77,17 @@ mod tests {
         line(Answer::Done, "D\n");
         line(Answer::Refused(8), "X 08\n");
         line(Answer::Refused(13), "X 13\n");
+    }
+
+    #[test]
+    fn each_page_has_two_digits_and_no_page_two_dashes() {
+        line(granted(0, None, false), "G 000000 - --\n");
+        line(granted(0, Some(0), false), "G 000000 - 00\n");
+        line(granted(0, Some(9), false), "G 000000 - 09\n");
+        line(granted(0, Some(10), false), "G 000000 - 10\n");
+        for page in 0..48 {
+            let expected = format!("G 000000 T {page:02}\n");
+            line(granted(0, Some(page), true), &expected);
+        }
     }
 }

@@ -44,11 +44,13 @@ fn refusal(mode: u32, space: u32, access: u32, phase: u32) -> Option<u8> {
     }
 }
 
-/// Rule 1: the byte is VA, and the top page is the I/O page.
+/// Rule 1: the byte is VA, and the top page is the I/O page. Request E1: none of
+/// the 48 pages serves.
 fn unrelocated(va: u16) -> Answer {
     let byte = u32::from(va);
     Answer::Granted {
         byte: if va < 0o160000 { byte } else { byte + 0o600000 },
+        page: None,
         trap: false,
     }
 }
@@ -101,7 +103,11 @@ fn relocated(store: &mut Store, page: usize, write: bool, va: u16, cause: u16) -
     if trap {
         record(store, SR0_TRAP, cause);
     }
-    Answer::Granted { byte, trap }
+    Answer::Granted {
+        byte,
+        page: Some(page as u8),
+        trap,
+    }
 }
 
 /// Rule 4: whether the block is past the length field, upward or downward.

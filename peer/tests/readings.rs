@@ -1,4 +1,5 @@
-//! 01's "Readings to check by", its whole case, and its "Slips we have seen".
+//! 01's "Readings to check by", its whole case, and its "Slips we have seen";
+//! each grant with its page as request E1 has it.
 
 use peer::{
     init, instruction_start, note_change, read_register, reference, replay, write_register, Answer,
@@ -16,8 +17,19 @@ const USER_I: usize = 32;
 const READ: u32 = 0;
 const WRITE: u32 = 1;
 
-fn granted(byte: u32, trap: bool) -> Answer {
-    Answer::Granted { byte, trap }
+/// A grant that the page at this place served.
+fn granted(byte: u32, page: u8, trap: bool) -> Answer {
+    let page = Some(page);
+    Answer::Granted { byte, page, trap }
+}
+
+/// A grant of rule 1: no page, no trap.
+fn unrelocated(byte: u32) -> Answer {
+    Answer::Granted {
+        byte,
+        page: None,
+        trap: false,
+    }
 }
 
 fn aborted(nonresident: bool, length: bool, readonly: bool) -> Answer {
@@ -45,13 +57,15 @@ fn kernel(store: &mut [u16], access: u32, va: u16) -> Answer {
 #[test]
 fn the_manuals_own_example() {
     let mut store = with_page(0o000001, 7, 0o3456, 0o077406);
-    assert_eq!(kernel(&mut store, READ, 0o167456), granted(0o355256, false));
+    let grant = granted(0o355256, 7, false);
+    assert_eq!(kernel(&mut store, READ, 0o167456), grant);
 }
 
 #[test]
 fn upward_length_051_allows_42_blocks() {
     let mut store = with_page(0o000001, 0, 0, 0o051 << 8 | 0o6);
-    assert_eq!(kernel(&mut store, READ, 0o005177), granted(0o005177, false));
+    let grant = granted(0o005177, 0, false);
+    assert_eq!(kernel(&mut store, READ, 0o005177), grant);
     let past = aborted(false, true, false);
     assert_eq!(kernel(&mut store, READ, 0o005200), past);
     assert_eq!(store[SR0], 0o040001);
@@ -60,7 +74,8 @@ fn upward_length_051_allows_42_blocks() {
 #[test]
 fn downward_length_126_allows_42_blocks() {
     let mut store = with_page(0o000001, 0, 0, 0o126 << 8 | 0o16);
-    assert_eq!(kernel(&mut store, READ, 0o012600), granted(0o012600, false));
+    let grant = granted(0o012600, 0, false);
+    assert_eq!(kernel(&mut store, READ, 0o012600), grant);
     let past = aborted(false, true, false);
     assert_eq!(kernel(&mut store, READ, 0o012577), past);
     assert_eq!(store[SR0], 0o040001);
@@ -70,7 +85,7 @@ fn downward_length_126_allows_42_blocks() {
 fn length_0_allows_one_block_upward_and_all_downward() {
     for block in 0..0o200 {
         let va = block << 6 | 0o5;
-        let grant = granted(u32::from(va), false);
+        let grant = granted(u32::from(va), 0, false);
         let mut up = with_page(0o000001, 0, 0, 0o000006);
         let past = aborted(false, true, false);
         let expected = if block == 0 { grant } else { past };
@@ -83,7 +98,7 @@ fn length_0_allows_one_block_upward_and_all_downward() {
 #[test]
 fn the_carry_is_dropped() {
     let mut store = with_page(0o000001, 0, 0o7777, 0o077406);
-    assert_eq!(kernel(&mut store, READ, 0o000100), granted(0, false));
+    assert_eq!(kernel(&mut store, READ, 0o000100), granted(0, 0, false));
 }
 
 #[test]
@@ -92,9 +107,9 @@ fn relocation_off() {
         let mut store = with_page(0o001000, 7, 0o1234, 0o077404);
         let before = store;
         let mut ask = |va| reference(&mut store, mode, 1, WRITE, 1, va);
-        assert_eq!(ask(0o157777), granted(0o157777, false));
-        assert_eq!(ask(0o160000), granted(0o760000, false));
-        assert_eq!(ask(0o177777), granted(0o777777, false));
+        assert_eq!(ask(0o157777), unrelocated(0o157777));
+        assert_eq!(ask(0o160000), unrelocated(0o760000));
+        assert_eq!(ask(0o177777), unrelocated(0o777777));
         assert_eq!(store, before);
     }
 }
@@ -125,7 +140,7 @@ fn mode_2_aborts() {
 fn a_trap_says_where_it_was() {
     let mut store = with_page(0o001001, USER_I + 3, 0, 0o077404);
     let answer = reference(&mut store, 3, 0, READ, 0, 0o060000);
-    assert_eq!(answer, granted(0, true));
+    assert_eq!(answer, granted(0, 35, true));
     assert_eq!(store[SR0], 0o011147);
     assert_eq!(store[PDR + USER_I + 3], 0o077604);
 }
@@ -134,12 +149,12 @@ fn a_trap_says_where_it_was() {
 fn a_write_at_a_registers_address_leaves_w_clear() {
     let mut store = with_page(0o000001, 7, 0o7600, 0o077406);
     let before = store;
-    let at_register = granted(0o772340, false);
+    let at_register = granted(0o772340, 7, false);
     assert_eq!(kernel(&mut store, WRITE, 0o172340), at_register);
-    let high_byte = granted(0o772377, false);
+    let high_byte = granted(0o772377, 7, false);
     assert_eq!(kernel(&mut store, WRITE, 0o172377), high_byte);
     assert_eq!(store, before);
-    let beside = granted(0o772400, false);
+    let beside = granted(0o772400, 7, false);
     assert_eq!(kernel(&mut store, WRITE, 0o172400), beside);
     assert_eq!(store[PDR + 7], 0o077506);
 }
@@ -147,7 +162,8 @@ fn a_write_at_a_registers_address_leaves_w_clear() {
 #[test]
 fn a_trap_at_a_registers_address_still_traps() {
     let mut store = with_page(0o001001, 7, 0o7600, 0o077404);
-    assert_eq!(kernel(&mut store, WRITE, 0o172340), granted(0o772340, true));
+    let at_register = granted(0o772340, 7, true);
+    assert_eq!(kernel(&mut store, WRITE, 0o172340), at_register);
     assert_eq!(store[PDR + 7], 0o077404);
     assert_eq!(store[SR0], 0o011017);
 }
@@ -178,7 +194,7 @@ fn the_whole_case() {
         0x03, 0x01, 0x00, 0x01, 0x00, 0x00, 0x00, 0x00, 0x2E, 0xEF, 0x02, 0xCE, 0xF4, 0x03,
     ];
     let text = replay(&mut [0; 100], &recording);
-    assert_eq!(text, b"D\nD\nD\nG 355256 -\nR 077406\n");
+    assert_eq!(text, b"D\nD\nD\nG 355256 - 07\nR 077406\n");
 }
 
 #[test]
@@ -186,7 +202,7 @@ fn slip_a_downward_length_is_no_count_of_blocks() {
     let allowed: Vec<u16> = (0..0o200)
         .filter(|block| {
             let mut store = with_page(0o000001, 0, 0, 0o126 << 8 | 0o16);
-            let grant = granted(u32::from(block << 6), false);
+            let grant = granted(u32::from(block << 6), 0, false);
             kernel(&mut store, READ, block << 6) == grant
         })
         .collect();
@@ -207,7 +223,8 @@ fn slip_an_aborted_write_leaves_w_clear() {
 #[test]
 fn slip_bit_9_holds_back_the_trap_but_not_a() {
     let mut store = with_page(0o000001, 0, 0, 0o077405);
-    assert_eq!(kernel(&mut store, WRITE, 0o000100), granted(0o100, false));
+    let grant = granted(0o100, 0, false);
+    assert_eq!(kernel(&mut store, WRITE, 0o000100), grant);
     assert_eq!(store[PDR], 0o077705);
     assert_eq!(store[SR0], 0o000001);
 }
@@ -216,13 +233,13 @@ fn slip_bit_9_holds_back_the_trap_but_not_a() {
 fn slip_a_trap_does_not_freeze() {
     let mut store = with_page(0o001001, 0, 0, 0o077404);
     store[PDR + 5] = 0o077401;
-    assert_eq!(kernel(&mut store, READ, 0o000000), granted(0, true));
+    assert_eq!(kernel(&mut store, READ, 0o000000), granted(0, 0, true));
     assert_eq!(store[SR0], 0o011001);
     // SR1 and SR2 still follow, and a second trap loads 7:1 anew.
     assert_eq!(instruction_start(&mut store, 0o1234), Answer::Done);
     assert_eq!(store[SR2], 0o1234);
     let second = reference(&mut store, 0, 0, READ, 1, 0o120000);
-    assert_eq!(second, granted(0, true));
+    assert_eq!(second, granted(0, 5, true));
     assert_eq!(store[SR0], 0o011213);
 }
 

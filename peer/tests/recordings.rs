@@ -26,9 +26,11 @@ fn the_limit_is_32_768_bytes() {
 }
 
 #[test]
-fn a_full_recording_of_the_longest_lines() {
+fn full_recordings_of_the_longest_lines() {
     let reads = [2, 0x7A, 0xFF, 0x03].repeat(8192);
     text(&reads, &"R 000000\n".repeat(8192));
+    let references = [1, 0, 0, 0, 0, 0, 0].repeat(4681);
+    text(&references, &"G 000000 - --\n".repeat(4681));
 }
 
 #[test]
@@ -54,8 +56,8 @@ fn each_kind_of_record() {
         &[1, 2, 0, 0, 0, 0xFF, 0xFF],
     ]
     .concat();
-    let lines = "D\nR 000017\nD\nD\nD\nD\nG 000005 T\nR 011223\nR 077704\nR 000366\n\
-                 D\nR 000000\nR 000250\nA 110\nD\nR 000000\nG 777777 -\n";
+    let lines = "D\nR 000017\nD\nD\nD\nD\nG 000005 T 09\nR 011223\nR 077704\nR 000366\n\
+                 D\nR 000000\nR 000250\nA 110\nD\nR 000000\nG 777777 - --\n";
     text(&recording, lines);
 }
 

@@ -14,8 +14,10 @@ const SR3: usize = 99;
 /// A resident page of all blocks, read and written freely.
 const FREE: u16 = 0o077406;
 
-fn granted(byte: u32, trap: bool) -> Answer {
-    Answer::Granted { byte, trap }
+/// A grant that the page at this place served.
+fn granted(byte: u32, page: u8, trap: bool) -> Answer {
+    let page = Some(page);
+    Answer::Granted { byte, page, trap }
 }
 
 /// Relocation on, each page free, its PAR (octal) ten times the page number.
@@ -40,10 +42,11 @@ fn each_mode_and_space_uses_its_own_set() {
                 let d = space == 1 && sr3 & enable != 0;
                 let page = first + if d { 8 } else { 0 } + 3;
                 let answer = reference(&mut store, mode, space, 1, 0, 0o060021);
-                assert_eq!(answer, granted(0o1000 * page + 0o21, false));
+                let byte = 0o1000 * u32::from(page) + 0o21;
+                assert_eq!(answer, granted(byte, page, false));
                 let mut expected = mapped();
                 expected[SR3] = sr3;
-                expected[PDR + page as usize] |= 0o100;
+                expected[PDR + usize::from(page)] |= 0o100;
                 assert_eq!(store, expected);
             }
         }
@@ -56,7 +59,7 @@ fn a_frozen_sr0_takes_flags_but_no_cause() {
         let mut store = mapped();
         store[SR0] = frozen | 0o007253;
         store[PDR] = 0o077404;
-        assert_eq!(reference(&mut store, 0, 0, 0, 1, 0), granted(0, true));
+        assert_eq!(reference(&mut store, 0, 0, 0, 1, 0), granted(0, 0, true));
         assert_eq!(store[SR0], frozen | 0o017253);
         store[PDR] = 0o000000;
         reference(&mut store, 3, 0, 0, 0, 0o160000);
@@ -84,7 +87,7 @@ fn references_keep_unnamed_bits_of_sr0_and_pdr() {
     let mut store = mapped();
     store[SR0] = 0o007777;
     store[PDR] = 0o177464;
-    assert_eq!(reference(&mut store, 0, 0, 1, 0, 0), granted(0, true));
+    assert_eq!(reference(&mut store, 0, 0, 1, 0, 0), granted(0, 0, true));
     assert_eq!(store[SR0], 0o017401);
     assert_eq!(store[PDR], 0o177764);
     assert_eq!(read_register(&store, 0o777572), Answer::Word(0o011401));

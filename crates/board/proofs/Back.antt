@@ -4,10 +4,14 @@ use mathlib.Core.Bool.{Bool, true, false}
 use Prim.Native.Nat.{ℕ, _+_, _*_, _/_, _%_}
 use native.Mathlib.Omega.{arith}
 use lib.Dec.{eqb}
+use borrow.Author.Tests.{ne-eqb}
 use Rattle.rules.specs.Paper.{G, A, R, D, X}
 use Rattle.rules.specs.Words.{bit}
+use Rattle.rules.specs.declared.Served.{Served}
+use Rattle.rules.specs.declared.Served.the-variants.{Page, None}
 use Rattle.rules.proofs.Bools.{bit-small}
-use Rattle.board.specs.Codes.{flag, answerOf, ReadBack, OneToOne}
+use Rattle.board.specs.Codes.{sixBits, OfThe48, flag, servedOf, answerOf, ReadBack, OneToOne}
+use Rattle.board.proofs.Small.{six-bits-small}
 
 same-bit : (b : Bool) → eqb (bit b) 1 ≡ b
 same-bit true = refl
@@ -16,15 +20,25 @@ same-bit false = refl
 flag-is : (v n : ℕ) (b : Bool) → n / v % 2 ≡ bit b → flag v n ≡ b
 flag-is v n b e = rw e (same-bit b)
 
+-- 63 is none, and no place of the 48 is 63
+same-served : (served : Served) → OfThe48 served → servedOf (sixBits served) ≡ served
+same-served (Page place) h = rw (ne-eqb place 63 (λ e. omega arith))
+same-served None h = refl
+
 pub readBack : ReadBack
 unfolding answerOf
-readBack (G byte trap) small =
-    let n = 0x10000000 + bit trap * 0x01000000 + byte in
+readBack (G byte trap served) small =
+    let six = sixBits served in
+    let n = 0x10000000 + bit trap * 0x01000000 + six * 0x00040000 + byte in
     let s = bit-small trap in
+    let p = six-bits-small served (small .1) in
+    let h = small .0 in
     let k : n / 0x10000000 ≡ 1 = omega arith in
-    let b : n % 0x01000000 ≡ byte = omega arith in
+    let b : n % 0x00040000 ≡ byte = omega arith in
     let d : n / 0x01000000 ≡ 16 + bit trap = omega arith in
-    rw (k, b, flag-is 0x01000000 n trap (rw d (omega arith)))
+    let e : n / 0x00040000 ≡ 1024 + bit trap * 64 + six = omega arith in
+    let q : n / 0x00040000 % 64 ≡ six = rw e (omega arith) in
+    rw (k, b, flag-is 0x01000000 n trap (rw d (omega arith)), q, same-served served (small .1))
 readBack (A x y z) small =
     let n = 0x20000000 + bit x * 4 + bit y * 2 + bit z in
     let s = bit-small x in

@@ -1,4 +1,4 @@
--- Every answer of the unit is small: a byte of rule 5 or rule 1, a masked word, a number of the table.
+-- Every answer of the unit is small: a byte of rule 5 or rule 1, a page of rule 3 or none, a masked word, a number of the table.
 use mathlib.Core.Path.{_≡_, refl, sym, subst}
 use mathlib.Core.Bool.{Bool, true, false, cond, _&&_}
 use mathlib.Core.List.{List, [], _∷_}
@@ -11,14 +11,16 @@ use Rattle.page.specs.Sum.{byteOf}
 use Rattle.rules.specs.Paper.{Paper, G, A, X}
 use Rattle.rules.specs.Words.{word, PDR, SR0, SR3, relocates, implemented}
 use Rattle.rules.specs.Addresses.{registerAt}
-use Rattle.rules.specs.References.{flatByte, usesD, placeOf, details, aborts, ruled, examined, illegalMode, referred}
+use Rattle.rules.specs.References.{flatByte, usesD, pageFor, details, aborts, ruled, examined, illegalMode, referred}
 use Rattle.rules.specs.Refusals.{Conditions, lowest, conditions, refusalOf}
 use Rattle.rules.specs.Step.{step, accepted}
 use Rattle.rules.specs.declared.Reference.{Reference}
+use Rattle.rules.specs.declared.Served.{Served}
+use Rattle.rules.specs.declared.Served.the-variants.{Page, None}
 use Rattle.rules.specs.declared.Event.{Event}
 use Rattle.rules.specs.declared.Event.the-variants.{Refer, Read, Write, Instruction, Interrupt, Change, Init}
-use Rattle.rules.proofs.Bools.{and-l, and-r}
-use Rattle.board.specs.Codes.{Small, Typed, AnswersSmall}
+use Rattle.rules.proofs.Bools.{and-l, and-r, page-small}
+use Rattle.board.specs.Codes.{sixBits, OfThe48, Small, Typed, AnswersSmall}
 
 -- whichever way a test goes
 either : (x : Bool) (p q : Paper × List ℕ) → Small (p .0) → Small (q .0) → Small (cond x p q .0)
@@ -66,25 +68,25 @@ flat-small false va h = omega arith
 sum-small : (par va : ℕ) → byteOf par va < 0o1000000
 sum-small par va = omega arith
 
--- an abort, or a grant at a small byte
-granted-or-not : (x n e o t : Bool) (k l : List ℕ) (b : ℕ) → b < 0o1000000
-    → Small (cond {A = Paper × List ℕ} x (A n e o, k) (G b t, l) .0)
-granted-or-not true n e o t k l b h = tt
-granted-or-not false n e o t k l b h = h
+-- an abort, or a grant at a small byte by one of the 48
+granted-or-not : (x n e o t : Bool) (k l : List ℕ) (b page : ℕ) → b < 0o1000000 → page < 48
+    → Small (cond {A = Paper × List ℕ} x (A n e o, k) (G b t (Page page), l) .0)
+granted-or-not true n e o t k l b page h p = tt
+granted-or-not false n e o t k l b page h p = (h, p)
 
-ruled-small : (l : List ℕ) (page : ℕ) (write : Bool) (loaded va : ℕ) → Small (ruled l page write loaded va .0)
+ruled-small : (l : List ℕ) (page : ℕ) (write : Bool) (loaded va : ℕ) → page < 48 → Small (ruled l page write loaded va .0)
 unfolding ruled
 ruled-small l page write loaded va =
-    granted-or-not (aborts (word l (PDR page)) write va) _ _ _ _ _ _ (byteOf (word l page) va) (sum-small (word l page) va)
+    granted-or-not (aborts (word l (PDR page)) write va) _ _ _ _ _ _ (byteOf (word l page) va) page (sum-small (word l page) va)
 
 referred-small : (l : List ℕ) (r : Reference) → r .va < 0x10000 → Small (referred l r .0)
 unfolding referred illegalMode examined
 referred-small l r h =
     let d = usesD (word l SR3) (r .mode) (r .space) in
-    either (relocates (word l SR0)) (cond (eqb (r .mode) 2) (illegalMode l r) (examined l r)) (G (flatByte (r .va)) false, l)
+    either (relocates (word l SR0)) (cond (eqb (r .mode) 2) (illegalMode l r) (examined l r)) (G (flatByte (r .va)) false None, l)
     (either (eqb (r .mode) 2) (illegalMode l r) (examined l r) tt
-    (ruled-small l (placeOf (r .mode) d (r .va)) (eqb (r .access) 1) (details (r .phase) (r .mode) d (r .va)) (r .va)))
-    (flat-small (ltb (r .va) 0o160000) (r .va) h)
+    (ruled-small l (pageFor l r) (eqb (r .access) 1) (details (r .phase) (r .mode) d (r .va)) (r .va) (page-small l r)))
+    (flat-small (ltb (r .va) 0o160000) (r .va) h, tt)
 
 word-small : (w place : ℕ) → bitAnd w (implemented place) < 0x10000
 word-small w place =
@@ -107,6 +109,11 @@ accepted-small l Init h = tt
 pub answersSmall : AnswersSmall
 unfolding step
 answersSmall l e h = either (eqb (refusalOf l e) 0) (accepted l e) (X (refusalOf l e), l) (accepted-small l e h) (refusal-below l e)
+
+-- a page of the 48, or none, has room in six bits
+pub six-bits-small : (served : Served) → OfThe48 served → sixBits served < 64
+six-bits-small (Page place) h = omega arith
+six-bits-small None h = omega arith
 
 -- as a caller meets it
 pub small : {a : Paper} {m : List ℕ} (l : List ℕ) (e : Event) → Typed e → (a, m) ≡ step l e → Small a

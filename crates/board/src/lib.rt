@@ -2,12 +2,24 @@
 // The codes are in specs/Codes.antt; include/kt11c.h says them for C.
 
 ghost use mathlib.Core.Path.{_≡_};
+ghost use Prim.Native.Nat.{_≤_};
 ghost use Rattle.rules.specs.Paper.{paper};
 ghost use Rattle.rules.specs.Step.{step};
 ghost use Rattle.rules.specs.declared.Event.the-variants.{Refer, Read, Write, Instruction, Interrupt, Change, Init};
-ghost use Rattle.board.specs.Codes.{Small, codeOf, coded, referenceOf};
+ghost use Rattle.board.specs.Codes.{Small, sixBits, codeOf, coded, referenceOf};
 use rules::Answer;
 use rules::Reference;
+use rules::Served;
+
+// The page that served in six bits: its place, or 63 for none.
+fn six_bits(served: Served) -> u32
+    ensures { λ n. ⌜ (n ≡ sixBits served) × (n ≤ 255) ⌝ }
+{
+    match served {
+        Served::Page(place) => place as u32,
+        Served::None => 63,
+    }
+}
 
 // An answer as one number.
 fn code(a: Answer) -> u32
@@ -15,7 +27,12 @@ fn code(a: Answer) -> u32
     ensures { λ n. ⌜ n ≡ codeOf (paper a) ⌝ }
 {
     match a {
-        Answer::Granted { byte, trap } => 0x10000000 + ruling::bit(trap) as u32 * 0x01000000 + byte,
+        Answer::Granted { byte, trap, served } => {
+            0x10000000
+                + ruling::bit(trap) as u32 * 0x01000000
+                + six_bits(served) * 0x00040000
+                + byte
+        }
         Answer::Aborted {
             nonresident,
             length,

@@ -1,4 +1,4 @@
--- Demand 2, "exactly": with relocation on an answer goes by mode, flags, sum and trap alone, as bools case by case.
+-- Demand 2, "exactly": with relocation on an answer goes by mode, flags, sum, trap and page alone, as bools case by case.
 use mathlib.Core.Path.{_≡_, refl, sym, _∙_}
 use mathlib.Core.Bool.{Bool, true, false, cond, not, _&&_, _||_, false≢true, true≢false}
 use mathlib.Core.List.{List}
@@ -13,23 +13,25 @@ use Rattle.page.specs.Sum.{byteOf}
 use Rattle.rules.specs.Paper.{Paper, G, A}
 use Rattle.rules.specs.Keys.{keyOf, nonResident, readOnly, rightOf}
 use Rattle.rules.specs.Words.{word, SR0}
-use Rattle.rules.specs.References.{nonResidentFlag, readOnlyFlag, traps, ruled, examined, illegalMode, referred}
+use Rattle.rules.specs.References.{pageFor, nonResidentFlag, readOnlyFlag, traps, ruled, examined, illegalMode, referred}
 use Rattle.rules.specs.Refusals.{refusalOf}
 use Rattle.rules.specs.Step.{step, accepted}
 use Rattle.rules.specs.declared.Reference.{Reference}
+use Rattle.rules.specs.declared.Served.{Served}
+use Rattle.rules.specs.declared.Served.the-variants.{Page}
 use Rattle.rules.specs.declared.Event.the-variants.{Refer}
 use Rattle.claims.specs.Demand2.{Relocated, parFor, pdrFor, writing, Allowed, Barred, Demand2}
 use Rattle.rules.proofs.Bools.{cond-first}
 
--- the answer by mode 2, the three flags, the byte and the trap
-abbrev answer : Bool → Bool → Bool → Bool → ℕ → Bool → Paper
-answer illegal n e o b t = cond illegal (A true false false) (cond (n || e || o) (A n e o) (G b t))
+-- the answer by mode 2, the three flags, the byte, the trap and the page
+abbrev answer : Bool → Bool → Bool → Bool → ℕ → Bool → ℕ → Paper
+answer illegal n e o b t p = cond illegal (A true false false) (cond (n || e || o) (A n e o) (G b t (Page p)))
 
 -- with relocation on, `step` answers so
 answer-is : (l : List ℕ) (r : Reference) → Relocated l r
     → step l (Refer r) .0
     ≡ answer (eqb (r .mode) 2) (nonResidentFlag (pdrFor l r)) (lengthError (pdrFor l r) (blockOf (r .va))) (readOnlyFlag (pdrFor l r) (writing r))
-    (byteOf (parFor l r) (r .va)) (traps (word l SR0) (pdrFor l r) (writing r))
+    (byteOf (parFor l r) (r .va)) (traps (word l SR0) (pdrFor l r) (writing r)) (pageFor l r)
 unfolding step refusalOf accepted referred illegalMode examined ruled
 answer-is l r h =
     rw (
@@ -42,30 +44,30 @@ answer-is l r h =
     )
     (simp cond-first)
 
-grant-there : (i n e o : Bool) (b c : ℕ) (t u : Bool) → answer i n e o b t ≡ G c u
-    → (i ≡ false) × ((n ≡ false) × ((e ≡ false) × ((o ≡ false) × ((b ≡ c) × (t ≡ u)))))
-grant-there true n e o b c t u h = let z : _≡_ {A = ℕ} 0 1 = cc in absurd (omega arith)
-grant-there false true e o b c t u h = let z : _≡_ {A = ℕ} 0 1 = cc in absurd (omega arith)
-grant-there false false true o b c t u h = let z : _≡_ {A = ℕ} 0 1 = cc in absurd (omega arith)
-grant-there false false false true b c t u h = let z : _≡_ {A = ℕ} 0 1 = cc in absurd (omega arith)
-grant-there false false false false b c t u h = (refl, (refl, (refl, (refl, (cc, cc)))))
+grant-there : (i n e o : Bool) (b c : ℕ) (t u : Bool) (p : ℕ) (s : Served) → answer i n e o b t p ≡ G c u s
+    → (i ≡ false) × ((n ≡ false) × ((e ≡ false) × ((o ≡ false) × ((b ≡ c) × ((t ≡ u) × (Page p ≡ s))))))
+grant-there true n e o b c t u p s h = let z : _≡_ {A = ℕ} 0 1 = cc in absurd (omega arith)
+grant-there false true e o b c t u p s h = let z : _≡_ {A = ℕ} 0 1 = cc in absurd (omega arith)
+grant-there false false true o b c t u p s h = let z : _≡_ {A = ℕ} 0 1 = cc in absurd (omega arith)
+grant-there false false false true b c t u p s h = let z : _≡_ {A = ℕ} 0 1 = cc in absurd (omega arith)
+grant-there false false false false b c t u p s h = (refl, (refl, (refl, (refl, (cc, (cc, cc))))))
 
-abort-there : (i n e o : Bool) (b : ℕ) (t x y z : Bool) → answer i n e o b t ≡ A x y z
+abort-there : (i n e o : Bool) (b : ℕ) (t : Bool) (k : ℕ) (x y z : Bool) → answer i n e o b t k ≡ A x y z
     → (cond i true n ≡ x) × ((cond i false e ≡ y) × ((cond i false o ≡ z) × ((x || y || z) ≡ true)))
-abort-there true n e o b t x y z h = let p : true ≡ x = cc in (p, (cc, (cc, rw (← p))))
-abort-there false true e o b t x y z h = let p : true ≡ x = cc in (p, (cc, (cc, rw (← p))))
-abort-there false false true o b t x y z h = let p : false ≡ x = cc in let q : true ≡ y = cc in (p, (q, (cc, rw (← p, ← q))))
-abort-there false false false true b t x y z h =
+abort-there true n e o b t k x y z h = let p : true ≡ x = cc in (p, (cc, (cc, rw (← p))))
+abort-there false true e o b t k x y z h = let p : true ≡ x = cc in (p, (cc, (cc, rw (← p))))
+abort-there false false true o b t k x y z h = let p : false ≡ x = cc in let q : true ≡ y = cc in (p, (q, (cc, rw (← p, ← q))))
+abort-there false false false true b t k x y z h =
     let p : false ≡ x = cc in
     let q : false ≡ y = cc in
     let r : true ≡ z = cc in
     (p, (q, (r, rw (← p, ← q, ← r))))
-abort-there false false false false b t x y z h = let w : _≡_ {A = ℕ} 0 1 = cc in absurd (omega arith)
+abort-there false false false false b t k x y z h = let w : _≡_ {A = ℕ} 0 1 = cc in absurd (omega arith)
 
-abort-back : (i n e o : Bool) (b : ℕ) (t x y z : Bool)
-    → cond i true n ≡ x → cond i false e ≡ y → cond i false o ≡ z → (x || y || z) ≡ true → answer i n e o b t ≡ A x y z
-abort-back true n e o b t x y z p q r f = cc
-abort-back false n e o b t x y z p q r f = rw (p, q, r, f)
+abort-back : (i n e o : Bool) (b : ℕ) (t : Bool) (k : ℕ) (x y z : Bool)
+    → cond i true n ≡ x → cond i false e ≡ y → cond i false o ≡ z → (x || y || z) ≡ true → answer i n e o b t k ≡ A x y z
+abort-back true n e o b t k x y z p q r f = cc
+abort-back false n e o b t k x y z p q r f = rw (p, q, r, f)
 
 -- a key's right for an access, and the flags that it leaves clear
 right-there : (w n o : Bool) → n ≡ false → (w && o) ≡ false → cond w (not n && not o) (not n) ≡ true
@@ -81,43 +83,46 @@ right-back true false true h = absurd (false≢true h)
 right-back true false false h = (refl, refl)
 right-back false false o h = (refl, refl)
 
-granted-there : (l : List ℕ) (r : Reference) → Relocated l r → (byte : ℕ) (trap : Bool) → step l (Refer r) .0 ≡ G byte trap → Allowed l r byte trap
+granted-there : (l : List ℕ) (r : Reference) → Relocated l r
+    → (byte : ℕ) (trap : Bool) (served : Served) → step l (Refer r) .0 ≡ G byte trap served → Allowed l r byte trap served
 unfolding rightOf
-granted-there l r h byte trap g =
+granted-there l r h byte trap served g =
     let key = keyOf (pdrFor l r) in
     let q = grant-there (eqb (r .mode) 2) (nonResident key) (lengthError (pdrFor l r) (blockOf (r .va))) (readOnlyFlag (pdrFor l r) (writing r))
-    (byteOf (parFor l r) (r .va)) byte (traps (word l SR0) (pdrFor l r) (writing r)) trap (sym (answer-is l r h) ∙ g) in
+    (byteOf (parFor l r) (r .va)) byte (traps (word l SR0) (pdrFor l r) (writing r)) trap (pageFor l r) served (sym (answer-is l r h) ∙ g) in
     record {
       legal = q .0;
       right = right-there (writing r) (nonResident key) (readOnly key) (q .1 .0) (q .1 .1 .1 .0);
       within = q .1 .1 .0;
       sum = q .1 .1 .1 .1 .0;
-      trapped = q .1 .1 .1 .1 .1;
+      trapped = q .1 .1 .1 .1 .1 .0;
+      page = q .1 .1 .1 .1 .1 .1;
     }
 
-granted-back : (l : List ℕ) (r : Reference) → Relocated l r → (byte : ℕ) (trap : Bool) → Allowed l r byte trap → step l (Refer r) .0 ≡ G byte trap
+granted-back : (l : List ℕ) (r : Reference) → Relocated l r
+    → (byte : ℕ) (trap : Bool) (served : Served) → Allowed l r byte trap served → step l (Refer r) .0 ≡ G byte trap served
 unfolding rightOf
-granted-back l r h byte trap a =
+granted-back l r h byte trap served a =
     let key = keyOf (pdrFor l r) in
     let q = right-back (writing r) (nonResident key) (readOnly key) (a .right) in
-    answer-is l r h ∙ rw (a .legal, q .0, a .within, q .1, a .sum, a .trapped)
+    answer-is l r h ∙ rw (a .legal, q .0, a .within, q .1, a .sum, a .trapped, a .page)
 
 aborted-there : (l : List ℕ) (r : Reference) → Relocated l r → (n e o : Bool) → step l (Refer r) .0 ≡ A n e o → Barred l r n e o
 aborted-there l r h n e o g =
     let q = abort-there (eqb (r .mode) 2) (nonResidentFlag (pdrFor l r)) (lengthError (pdrFor l r) (blockOf (r .va)))
     (readOnlyFlag (pdrFor l r) (writing r))
-    (byteOf (parFor l r) (r .va)) (traps (word l SR0) (pdrFor l r) (writing r)) n e o (sym (answer-is l r h) ∙ g) in
+    (byteOf (parFor l r) (r .va)) (traps (word l SR0) (pdrFor l r) (writing r)) (pageFor l r) n e o (sym (answer-is l r h) ∙ g) in
     record { absent = q .0; beyond = q .1 .0; unwritable = q .1 .1 .0; flagged = q .1 .1 .1 }
 
 aborted-back : (l : List ℕ) (r : Reference) → Relocated l r → (n e o : Bool) → Barred l r n e o → step l (Refer r) .0 ≡ A n e o
 aborted-back l r h n e o b =
     answer-is l r h
     ∙ abort-back (eqb (r .mode) 2) (nonResidentFlag (pdrFor l r)) (lengthError (pdrFor l r) (blockOf (r .va))) (readOnlyFlag (pdrFor l r) (writing r))
-    (byteOf (parFor l r) (r .va)) (traps (word l SR0) (pdrFor l r) (writing r)) n e o (b .absent) (b .beyond) (b .unwritable) (b .flagged)
+    (byteOf (parFor l r) (r .va)) (traps (word l SR0) (pdrFor l r) (writing r)) (pageFor l r) n e o (b .absent) (b .beyond) (b .unwritable) (b .flagged)
 
 pub demand2 : Demand2
 demand2 =
     record {
-      granted = λ l r h b t. (granted-there l r h b t, granted-back l r h b t);
+      granted = λ l r h b t s. (granted-there l r h b t s, granted-back l r h b t s);
       aborted = λ l r h n e o. (aborted-there l r h n e o, aborted-back l r h n e o);
     }

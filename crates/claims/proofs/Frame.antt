@@ -9,14 +9,13 @@ use lib.Seq.{getD-set-other}
 use borrow.Author.Tests.{eqb-true, eqb-false}
 use Rattle.rules.specs.Words.{word, PDR, SR0, SR1, SR2, SR3}
 use Rattle.rules.specs.Addresses.{registerAt}
-use Rattle.rules.specs.References.{ruled, examined, illegalMode, referred}
+use Rattle.rules.specs.References.{pageFor, ruled, examined, illegalMode, referred}
 use Rattle.rules.specs.Registers.{writtenAt}
 use Rattle.rules.specs.Others.{started, noted, cleared}
 use Rattle.rules.specs.Step.{step, accepted}
 use Rattle.rules.specs.declared.Reference.{Reference}
 use Rattle.rules.specs.declared.Event.{Event}
 use Rattle.rules.specs.declared.Event.the-variants.{Refer, Read, Write, Instruction, Interrupt, Change, Init}
-use Rattle.claims.specs.Demand2.{pageFor}
 use Rattle.claims.specs.Frame.{named, OthersStay, Frame}
 use Rattle.claims.proofs.Marks.{onlyMarks}
 use Rattle.rules.proofs.Bools.{or-l, or-r, cond-last, cond-getD, cond-same}

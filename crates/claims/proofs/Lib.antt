@@ -2,6 +2,7 @@ pub mod Readings
 pub mod Lowest
 pub mod Demand1
 pub mod Demand2
+pub mod Serving
 pub mod Determined
 pub mod Alike
 pub mod Marks

@@ -10,16 +10,16 @@ use lib.ListN.{length, getD, set}
 use lib.Seq.{getD-set-other, getD-set-same}
 use borrow.Author.Tests.{eqb-true}
 use Rattle.page.specs.Sum.{byteOf}
-use Rattle.rules.specs.Words.{word, PDR, SR0, SR3, bit, relocates}
+use Rattle.rules.specs.Words.{word, PDR, SR0, bit, relocates}
 use Rattle.rules.specs.Addresses.{inRegisters}
-use Rattle.rules.specs.References.{usesD, aborts, condition, marksOf, ruled, examined, illegalMode, referred}
+use Rattle.rules.specs.References.{pageFor, aborts, condition, marksOf, ruled, examined, illegalMode, referred}
 use Rattle.rules.specs.Refusals.{refusalOf}
 use Rattle.rules.specs.Step.{step, accepted}
 use Rattle.rules.specs.declared.Reference.{Reference}
 use Rattle.rules.specs.declared.Event.the-variants.{Refer}
-use Rattle.claims.specs.Demand2.{pageFor, parFor, pdrFor, writing}
+use Rattle.claims.specs.Demand2.{parFor, pdrFor, writing}
 use Rattle.claims.specs.Frame.{OnlyMarks}
-use Rattle.rules.proofs.Bools.{cond-last, cond-getD, place-small}
+use Rattle.rules.proofs.Bools.{cond-last, cond-getD, page-small}
 
 -- a word with A and W added or not
 abbrev Marked : ℕ → ℕ → Type 0
@@ -38,7 +38,7 @@ either false p q old s t = t
 
 -- the page's PDR lies before SR0
 pub before-status : (l : List ℕ) (r : Reference) → PDR (pageFor l r) < 96
-before-status l r = omega (arith, place-small (r .mode) (usesD (word l SR3) (r .mode) (r .space)) (r .va))
+before-status l r = omega (arith, page-small l r)
 
 module _ (l : List ℕ) (r : Reference) (whole : length l ≡ 100) where
   q : ℕ

@@ -16,10 +16,9 @@ use Rattle.rules.specs.Paper.{R}
 use Rattle.rules.specs.Addresses.{registerAt}
 use Rattle.rules.specs.References.{
   usesD,
-  placeOf,
+  pageFor,
   nonResidentFlag,
   readOnlyFlag,
-  aborts,
   condition,
   traps,
   marksOf,
@@ -39,7 +38,7 @@ use Rattle.rules.specs.Step.{step, accepted}
 use Rattle.rules.specs.declared.Reference.{Reference}
 use Rattle.rules.specs.declared.Event.{Event}
 use Rattle.rules.specs.declared.Event.the-variants.{Refer, Read, Write, Instruction, Interrupt, Change, Init}
-use Rattle.claims.specs.Demand2.{pageFor, writing}
+use Rattle.claims.specs.Demand2.{writing}
 use Rattle.claims.specs.Unimplemented.{Alike, Unimplemented}
 use Rattle.rules.proofs.Bools.{cond-first, cond-last}
 use Rattle.claims.proofs.Marks.{before-status}

@@ -8,11 +8,11 @@ use lib.Dec.{ltb, eqb}
 use lib.Bits.{bitOr}
 use Rattle.rules.specs.Words.{word, PDR, SR0, SR1, SR2, SR3, bit}
 use Rattle.rules.specs.Addresses.{registerAt}
+use Rattle.rules.specs.References.{pageFor}
 use Rattle.rules.specs.Step.{step}
 use Rattle.rules.specs.declared.Reference.{Reference}
 use Rattle.rules.specs.declared.Event.{Event}
 use Rattle.rules.specs.declared.Event.the-variants.{Refer, Read, Write, Instruction, Interrupt, Change, Init}
-use Rattle.claims.specs.Demand2.{pageFor}
 
 -- a write to a place names it, and a PAR its PDR too; SR1 and SR2 stay
 abbrev pub written : ℕ → ℕ → Bool

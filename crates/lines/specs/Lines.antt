@@ -6,6 +6,8 @@ use lib.ListN.{length, take, drop}
 use lib.Dec.{leb}
 use Rattle.rules.specs.Paper.{Paper, G, A, R, D, X}
 use Rattle.rules.specs.Words.{bit}
+use Rattle.rules.specs.declared.Served.{Served}
+use Rattle.rules.specs.declared.Served.the-variants.{Page, None}
 use Rattle.lines.specs.Digits.{digit, octal, decimal}
 
 abbrev pub Text : Type 0
@@ -15,10 +17,15 @@ Text = List ℕ
 abbrev pub character : ℕ → Text
 character c = c ∷ []
 
+-- the page that served: its place in two decimal digits, or `--`
+abbrev pub servedText : Served → Text
+servedText (Page place) = decimal 2 place
+servedText None = 45 ∷ 45 ∷ []
+
 -- the parts of a line
 abbrev pub parts : Paper → List Text
--- `G`, byte in six octal digits, `T` or `-`
-parts (G byte trap) = character 71 ∷ octal 6 byte ∷ character (cond trap 84 45) ∷ []
+-- `G`, byte in six octal digits, `T` or `-`, the page that served
+parts (G byte trap served) = character 71 ∷ octal 6 byte ∷ character (cond trap 84 45) ∷ servedText served ∷ []
 -- `A` and three digits for non-resident, length, read-only
 parts (A nonresident length readonly) =
     character 65 ∷ (digit (bit nonresident) ∷ digit (bit length) ∷ digit (bit readonly) ∷ []) ∷ []
@@ -43,7 +50,7 @@ lineOf p = lineOfParts (parts p)
 
 -- the length of the longest line, a grant's
 abbrev pub longest : ℕ
-longest = 11
+longest = 14
 
 abbrev pub NoneLonger : Type 0
 NoneLonger = (p : Paper) → length (lineOf p) ≤ longest

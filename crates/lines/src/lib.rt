@@ -1,6 +1,7 @@
 // An answer's line (01, "Recordings"), written straight into the lent output.
 
 use rules::Answer;
+use rules::Served;
 ghost use mathlib.Core.Path.{_≡_};
 ghost use mathlib.Core.Bool.{cond};
 ghost use Prim.Native.Nat.{_+_, _%_, _≤_, _<_};
@@ -8,8 +9,8 @@ ghost use lib.ListN.{length};
 ghost use lib.Seq.{sets};
 ghost use Rattle.rules.specs.Paper.{paper, G, A as Abort, R, D, X};
 ghost use Rattle.rules.specs.Words.{bit};
-ghost use Rattle.lines.specs.Digits.{digit, octal};
-ghost use Rattle.lines.specs.Lines.{lineOf, placed};
+ghost use Rattle.lines.specs.Digits.{digit, octal, decimal};
+ghost use Rattle.lines.specs.Lines.{servedText, lineOf, placed};
 
 const SPACE: u8 = 32;
 
@@ -50,22 +51,47 @@ fn put_octal(out: &mut [u8], at: usize, n: u32)
     out[at + 5] = octal_digit(n);
 }
 
+// two decimal digits
+fn put_decimal(out: &mut [u8], at: usize, n: u32)
+    requires { ⌜ at + 2 ≤ length (now out) ⌝ }
+    ensures { λ r. ⌜ now (out .exit) ≡ sets (now (out .entry)) at (decimal 2 n) ⌝ }
+{
+    out[at] = decimal_digit(n / 10);
+    out[at + 1] = decimal_digit(n);
+}
+
 fn mark(trap: bool) -> u8
     ensures { λ r. ⌜ r ≡ cond trap 84 45 ⌝ }
 {
     if trap { b'T' } else { b'-' }
 }
 
-fn put_granted(out: &mut [u8], at: usize, byte: u32, trap: bool)
-    requires { ⌜ at + 11 ≤ length (now out) ⌝ }
-    ensures { λ r. ⌜ now (out .exit) ≡ sets (now (out .entry)) at (lineOf (G byte trap)) ⌝ }
+// the page that served
+fn put_served(out: &mut [u8], at: usize, served: Served)
+    requires { ⌜ at + 2 ≤ length (now out) ⌝ }
+    ensures { λ r. ⌜ now (out .exit) ≡ sets (now (out .entry)) at (servedText served) ⌝ }
+{
+    match served {
+        Served::Page(place) => put_decimal(out, at, place as u32),
+        Served::None => {
+            out[at] = b'-';
+            out[at + 1] = b'-';
+        }
+    }
+}
+
+fn put_granted(out: &mut [u8], at: usize, byte: u32, trap: bool, served: Served)
+    requires { ⌜ at + 14 ≤ length (now out) ⌝ }
+    ensures { λ r. ⌜ now (out .exit) ≡ sets (now (out .entry)) at (lineOf (G byte trap served)) ⌝ }
 {
     out[at] = b'G';
     out[at + 1] = SPACE;
     put_octal(out, at + 2, byte);
     out[at + 8] = SPACE;
     out[at + 9] = mark(trap);
-    out[at + 10] = FEED;
+    out[at + 10] = SPACE;
+    put_served(out, at + 11, served);
+    out[at + 13] = FEED;
 }
 
 fn put_aborted(out: &mut [u8], at: usize, nonresident: bool, beyond: bool, readonly: bool)
@@ -104,20 +130,23 @@ fn put_refused(out: &mut [u8], at: usize, n: u32)
 {
     out[at] = b'X';
     out[at + 1] = SPACE;
-    out[at + 2] = decimal_digit(n / 10);
-    out[at + 3] = decimal_digit(n);
+    put_decimal(out, at + 2, n);
     out[at + 4] = FEED;
 }
 
 // The length of the longest line.
-pub const LONGEST: usize = 11;
+pub const LONGEST: usize = 14;
 
 // The length of an answer's line.
 pub fn length_of(a: Answer) -> usize
     ensures { λ n. ⌜ n ≡ length (lineOf (paper a)) ⌝ }
 {
     match a {
-        Answer::Granted { byte: _, trap: _ } => 11,
+        Answer::Granted {
+            byte: _,
+            trap: _,
+            served: _,
+        } => 14,
         Answer::Aborted {
             nonresident: _,
             length: _,
@@ -134,7 +163,7 @@ fn put_fitting(out: &mut [u8], at: usize, a: Answer)
     ensures { λ r. ⌜ now (out .exit) ≡ sets (now (out .entry)) at (lineOf (paper a)) ⌝ }
 {
     match a {
-        Answer::Granted { byte, trap } => put_granted(out, at, byte, trap),
+        Answer::Granted { byte, trap, served } => put_granted(out, at, byte, trap, served),
         Answer::Aborted {
             nonresident,
             length,

@@ -44,12 +44,12 @@ fn length_zero() {
     let mut s = [0u16; 100];
     write(&mut s, 0o772300, 0o000006); // D: Kernel I 0, ED 0, key 6
     write(&mut s, 0o777572, 0o000001); // D: relocation on
-    refer(&mut s, 0, 0, 0o000077); // G 000077 -
+    refer(&mut s, 0, 0, 0o000077); // G 000077 - 00
     refer(&mut s, 0, 0, 0o000100); // A 010
     write(&mut s, 0o777572, 0o000001); // D: the flag cleared
     write(&mut s, 0o772300, 0o000016); // D: ED 1
-    refer(&mut s, 0, 0, 0o000000); // G 000000 -
-    refer(&mut s, 0, 0, 0o017777); // G 017777 -
+    refer(&mut s, 0, 0, 0o000000); // G 000000 - 00
+    refer(&mut s, 0, 0, 0o017777); // G 017777 - 00
 }
 
 fn register_page() {
@@ -58,7 +58,7 @@ fn register_page() {
     write(&mut s, 0o772356, 0o007600); // D
     write(&mut s, 0o772316, 0o077406); // D
     write(&mut s, 0o777572, 0o000001); // D
-    refer(&mut s, 0, 1, 0o172340); // G 772340 -
+    refer(&mut s, 0, 1, 0o172340); // G 772340 - 07
     read(&mut s, 0o772316); // R 077406
 }
 
@@ -74,7 +74,7 @@ fn downward() {
     let mut s = [0u16; 100];
     write(&mut s, 0o772300, 0o025016); // D: length 052, ED 1, key 6
     write(&mut s, 0o777572, 0o000001); // D
-    refer(&mut s, 0, 0, 0o005200); // G 005200 -: block 052
+    refer(&mut s, 0, 0, 0o005200); // G 005200 - 00: block 052
     refer(&mut s, 0, 0, 0o005177); // A 010: block 051
 }
 
@@ -92,7 +92,7 @@ fn held_back() {
     let mut s = [0u16; 100];
     write(&mut s, 0o772300, 0o077404); // D: key 4
     write(&mut s, 0o777572, 0o000001); // D: bit 9 clear
-    refer(&mut s, 0, 0, 0o000000); // G 000000 -
+    refer(&mut s, 0, 0, 0o000000); // G 000000 - 00
     read(&mut s, 0o772300); // R 077604: A
     read(&mut s, 0o777572); // R 000001
 }
@@ -103,10 +103,10 @@ fn no_freeze() {
     write(&mut s, 0o772300, 0o077404); // D: key 4
     write(&mut s, 0o772302, 0o077404); // D: and page 1
     write(&mut s, 0o777572, 0o001001); // D: traps enabled
-    refer(&mut s, 0, 0, 0o000000); // G 000000 T
+    refer(&mut s, 0, 0, 0o000000); // G 000000 T 00
     show(kt11c::apply(&mut s, Event::Instruction { va: 0o001234 })); // D
     read(&mut s, 0o777576); // R 001234
-    refer(&mut s, 0, 0, 0o020000); // G 000000 T
+    refer(&mut s, 0, 0, 0o020000); // G 000000 T 01
     read(&mut s, 0o777572); // R 011003: page 1
 }
 
@@ -127,11 +127,11 @@ fn marks_cleared() {
     let mut s = [0u16; 100];
     write(&mut s, 0o772300, 0o077404); // D: key 4
     write(&mut s, 0o777572, 0o000001); // D
-    refer(&mut s, 0, 1, 0o000000); // G 000000 -
+    refer(&mut s, 0, 1, 0o000000); // G 000000 - 00
     read(&mut s, 0o772300); // R 077704: A and W
     write(&mut s, 0o772340, 0o000010); // D: the PAR
     read(&mut s, 0o772300); // R 077404
-    refer(&mut s, 0, 1, 0o000000); // G 001000 -
+    refer(&mut s, 0, 1, 0o000000); // G 001000 - 00
     write(&mut s, 0o772300, 0o077404); // D: the PDR
     read(&mut s, 0o772300); // R 077404
 }

@@ -12,6 +12,7 @@ ghost use Rattle.references.specs.Accepted.{Accepted, InMode};
 use rules::Answer;
 use rules::Reference;
 use rules::Refusal;
+use rules::Served;
 
 // rule 1: the byte with relocation off
 fn flat(va: u16) -> u32
@@ -69,15 +70,17 @@ fn examined(s: &mut [u16], r: Reference) -> Answer
     let data = r.space == 1;
     let d = data & enables_d(s[99], r.mode);
     let p = place_of(r.mode, d, r.va);
+    let q = 48 + p; // its PDR
     let ruled = ruling::rule(
+        p as u8,
         s[p],
-        s[48 + p],
+        s[q],
         s[96],
         r.access == 1,
         details(r.phase, r.mode, d, r.va),
         r.va,
     );
-    s[48 + p] = ruled.pdr;
+    s[q] = ruled.pdr;
     s[96] = ruled.sr0;
     ruled.answer
 }
@@ -95,6 +98,7 @@ fn referred(s: &mut [u16], r: Reference) -> Answer
     Answer::Granted {
         byte: flat(r.va),
         trap: false,
+        served: Served::None,
     }
 }
 

@@ -22,7 +22,7 @@ fn show(registers: &mut [u16], recording: &[u8]) {
 // every kind, relocation off
 fn every_kind() {
     let mut registers = [0u16; 100];
-    // G 157777 -, G 760000 -, D, R 011064, D, D
+    // G 157777 - --, G 760000 - --, D, R 011064, D, D
     show(
         &mut registers,
         b"\x01\x00\x00\x00\x00\xFF\xDF\x01\x02\x01\x01\x01\x00\xE0\x04\x34\x12\x02\x7E\xFF\x03\x06\x06\xFE\x06\x01\x02",
@@ -42,7 +42,7 @@ fn every_kind() {
 // aborts
 fn aborts() {
     let mut registers = [0u16; 100];
-    // D, D, G 005177 -, A 010, R 040001, D
+    // D, D, G 005177 - 00, A 010, R 040001, D
     show(
         &mut registers,
         b"\x03\xC0\xF4\x03\x06\x29\x03\x7A\xFF\x03\x01\x00\x01\x00\x00\x00\x00\x7F\x0A\x01\x00\x00\x01\x00\x80\x0A\x02\x7A\xFF\x03\x04\x11\x11",
@@ -64,12 +64,12 @@ fn aborts() {
 // traps, A and W, the data set
 fn traps() {
     let mut registers = [0u16; 100];
-    // D, D, G 000000 T, R 011147, R 077604, G 000000 T
+    // D, D, G 000000 T 35, R 011147, R 077604, G 000000 T 35
     show(
         &mut registers,
         b"\x03\x86\xFF\x03\x04\x7F\x03\x7A\xFF\x03\x01\x02\x01\x03\x00\x00\x00\x00\x60\x02\x7A\xFF\x03\x02\x86\xFF\x03\x01\x03\x00\x01\x00\x00\x60",
     );
-    // R 077704, D, R 077404, G 040000 T, D, A 011
+    // R 077704, D, R 077404, G 040000 T 35, D, A 011
     show(
         &mut registers,
         b"\x02\x86\xFF\x03\x03\xA6\xFF\x03\x00\x01\x02\x86\xFF\x03\x01\x03\x00\x00\x00\x00\x60\x03\x86\xFF\x03\x02\x29\x01\x03\x00\x01\x00\x80\x6A",

@@ -19,7 +19,7 @@ use Rattle.rules.proofs.Papers.{numbered}
 
 -- the letter of a refusal
 unfoldable pub refuses : Paper → Bool
-refuses (G byte trap) = false
+refuses (G byte trap served) = false
 refuses (A n e o) = false
 refuses (R w) = false
 refuses D = false
@@ -63,7 +63,7 @@ refusal-listed l Init = simp (cond-listed, cond-same)
 
 unrefused : (p : Paper) → refuses p ≡ false → (a : Answer) × (paper a ≡ p)
 unfolding refuses
-unrefused (G byte trap) h = (Granted byte trap, refl)
+unrefused (G byte trap served) h = (Granted byte trap served, refl)
 unrefused (A n e o) h = (Aborted n e o, refl)
 unrefused (R w) h = (Word w, refl)
 unrefused D h = (Done, refl)

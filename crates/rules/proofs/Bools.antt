@@ -6,8 +6,9 @@ use Prim.Native.Nat.{ℕ, _≤_, _<_}
 use native.Mathlib.Omega.{arith}
 use lib.Dec.{eqb}
 use lib.ListN.{getD, length}
-use Rattle.rules.specs.Words.{bit}
-use Rattle.rules.specs.References.{placeOf}
+use Rattle.rules.specs.Words.{word, SR3, bit}
+use Rattle.rules.specs.References.{usesD, pageFor}
+use Rattle.rules.specs.declared.Reference.{Reference}
 
 pub and-l : (a b : Bool) → (a && b) ≡ true → a ≡ true
 and-l true b h = refl
@@ -56,5 +57,6 @@ first-small true y = omega arith
 first-small false true = omega arith
 first-small false false = omega arith
 
-pub place-small : (mode : ℕ) (d : Bool) (va : ℕ) → placeOf mode d va < 48
-place-small mode d va = omega (arith, first-small (eqb mode 0) (eqb mode 1), bit-small d)
+pub page-small : (l : List ℕ) (r : Reference) → pageFor l r < 48
+page-small l r =
+    omega (arith, first-small (eqb (r .mode) 0) (eqb (r .mode) 1), bit-small (usesD (word l SR3) (r .mode) (r .space)))

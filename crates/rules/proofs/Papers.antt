@@ -46,7 +46,7 @@ same-refusal Cut = refl
 same-refusal Long = refl
 
 back : Paper → Answer
-back (G byte trap) = Granted byte trap
+back (G byte trap served) = Granted byte trap served
 back (A nonresident length readonly) = Aborted nonresident length readonly
 back (R w) = Word w
 back D = Done
@@ -54,7 +54,7 @@ back (X n) = Refused (numbered n)
 
 same-answer : (a : Answer) → back (paper a) ≡ a
 unfolding back
-same-answer (Granted byte trap) = refl
+same-answer (Granted byte trap served) = refl
 same-answer (Aborted nonresident length readonly) = refl
 same-answer (Word w) = refl
 same-answer Done = refl

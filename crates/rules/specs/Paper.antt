@@ -2,14 +2,15 @@
 use Prim.Native.Nat.{ℕ}
 use mathlib.Core.Path.{_≡_}
 use mathlib.Core.Bool.{Bool}
+use Rattle.rules.specs.declared.Served.{Served}
 use Rattle.rules.specs.declared.Answer.{Answer}
 use Rattle.rules.specs.declared.Answer.the-variants.{Granted, Aborted, Word, Done, Refused}
 use Rattle.rules.specs.declared.Refusal.{Refusal}
 use Rattle.rules.specs.declared.Refusal.the-variants.{Store, Mode, Space, Access, Phase, High, Odd, NoRegister, BadChange, Full, Kind, Cut, Long}
 
--- G byte trap; A non-resident length read-only; R word; D done; X number
+-- G byte trap served; A non-resident length read-only; R word; D done; X number
 pub data Paper : Type 0 where
-  G : ℕ → Bool → Paper
+  G : ℕ → Bool → Served → Paper
   A : Bool → Bool → Bool → Paper
   R : ℕ → Paper
   D : Paper
@@ -32,7 +33,7 @@ number Cut = 12
 number Long = 13
 
 abbrev pub paper : Answer → Paper
-paper (Granted byte trap) = G byte trap
+paper (Granted byte trap served) = G byte trap served
 paper (Aborted nonresident length readonly) = A nonresident length readonly
 paper (Word w) = R w
 paper Done = D

@@ -13,6 +13,7 @@ use Rattle.rules.specs.Keys.{keyOf, nonResident, readOnly, trapsOnRead, 
 use Rattle.rules.specs.Words.{word, PDR, SR0, SR3, bit, relocates, trapsEnabled, frozen, enablesD}
 use Rattle.rules.specs.Addresses.{inRegisters}
 use Rattle.rules.specs.declared.Reference.{Reference}
+use Rattle.rules.specs.declared.Served.the-variants.{Page, None}
 
 -- rule 1: relocation off; from 160000 up the byte is VA + 600000
 abbrev pub flatByte : ℕ → ℕ
@@ -27,6 +28,10 @@ firstPage mode = cond (eqb mode 0) 0 (cond (eqb mode 1) 16 32)
 
 abbrev pub placeOf : ℕ → Bool → ℕ → ℕ
 placeOf mode d va = firstPage mode + 8 * bit d + pageOf va
+
+-- the page that a reference uses
+abbrev pub pageFor : List ℕ → Reference → ℕ
+pageFor l r = placeOf (r .mode) (usesD (word l SR3) (r .mode) (r .space)) (r .va)
 
 -- rule 4: each flag follows its own test; any flag means abort
 abbrev pub nonResidentFlag : ℕ → Bool
@@ -66,7 +71,7 @@ sr0After sr0 flags loaded =
     cond (eqb flags 0) sr0
     (bitOr (cond (frozen sr0) sr0 (bitOr (bitAnd sr0 0o177401) loaded)) flags)
 
--- rules 4 to 9, for the page at a place: the answer, and the store afterwards
+-- rules 4 to 9, for the page at a place: the answer, which on a grant says the place, and the store afterwards
 unfoldable pub ruled : List ℕ → ℕ → Bool → ℕ → ℕ → Paper × List ℕ
 ruled l page write loaded va =
     let pdr = word l (PDR page) in
@@ -78,13 +83,13 @@ ruled l page write loaded va =
     let trap = traps sr0 pdr write in
     cond (nonresident || length || readonly)
     (A nonresident length readonly, set l SR0 (sr0After sr0 (abortFlags nonresident length readonly) loaded))
-    (G byte trap, set (set l (PDR page) (bitOr pdr (marksOf byte (condition pdr write) write))) SR0 (sr0After sr0 (trapFlag trap) loaded))
+    (G byte trap (Page page), set (set l (PDR page) (bitOr pdr (marksOf byte (condition pdr write) write))) SR0 (sr0After sr0 (trapFlag trap) loaded))
 
 -- rule 3, and then the page found
 unfoldable pub examined : List ℕ → Reference → Paper × List ℕ
 examined l r =
     let d = usesD (word l SR3) (r .mode) (r .space) in
-    ruled l (placeOf (r .mode) d (r .va)) (eqb (r .access) 1) (details (r .phase) (r .mode) d (r .va)) (r .va)
+    ruled l (pageFor l r) (eqb (r .access) 1) (details (r .phase) (r .mode) d (r .va)) (r .va)
 
 -- rule 2: no page is examined
 unfoldable pub illegalMode : List ℕ → Reference → Paper × List ℕ
@@ -94,4 +99,4 @@ unfoldable pub referred : List ℕ → Reference → Paper × List ℕ
 referred l r =
     cond (relocates (word l SR0))
     (cond (eqb (r .mode) 2) (illegalMode l r) (examined l r))
-    (G (flatByte (r .va)) false, l)
+    (G (flatByte (r .va)) false None, l)

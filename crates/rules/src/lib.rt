@@ -61,11 +61,18 @@ pub fn number(r: Refusal) -> u32
     }
 }
 
+// Which page let a reference through (request E1): its place among the 48, counted as in the store; none where rule 1 grants.
+pub enum Served {
+    Page(u8),
+    None,
+}
+
 // What the unit answers.
 pub enum Answer {
     Granted {
         byte: u32,
         trap: bool,
+        served: Served,
     },
     Aborted {
         nonresident: bool,

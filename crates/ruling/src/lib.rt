@@ -10,6 +10,7 @@ ghost use Rattle.rules.specs.References.{marksOf, abortFlags, sr0After};
 ghost use Rattle.ruling.specs.Rulings.{rulingOf, abortOf, grantOf};
 use rules::Answer;
 use rules::Right;
+use rules::Served;
 
 // The answer, and the page's PDR and SR0 afterwards.
 pub struct Ruling {
@@ -146,20 +147,24 @@ fn aborted(
     }
 }
 
-fn granted(byte: u32, pdr: u16, sr0: u16, a: bool, write: bool, loaded: u16) -> Ruling
-    ensures { λ r. ⌜ (paper (r .answer), (r .pdr, r .sr0)) ≡ grantOf byte pdr sr0 a write loaded ⌝ }
+fn granted(place: u8, byte: u32, pdr: u16, sr0: u16, a: bool, write: bool, loaded: u16) -> Ruling
+    ensures { λ r. ⌜ (paper (r .answer), (r .pdr, r .sr0)) ≡ grantOf place byte pdr sr0 a write loaded ⌝ }
 {
     let trap = a & (sr0 / 512 % 2 == 1);
     Ruling {
-        answer: Answer::Granted { byte, trap },
+        answer: Answer::Granted {
+            byte,
+            trap,
+            served: Served::Page(place),
+        },
         pdr: pdr | marks(byte, a, write),
         sr0: sr0_after(sr0, bit(trap) * 0o10000, loaded),
     }
 }
 
-// Rules 4 to 9 for a page's PAR and PDR, given SR0 and what bits 7:1 of it would be loaded with.
-pub fn rule(par: u16, pdr: u16, sr0: u16, write: bool, loaded: u16, va: u16) -> Ruling
-    ensures { λ r. ⌜ (paper (r .answer), (r .pdr, r .sr0)) ≡ rulingOf par pdr sr0 write loaded va ⌝ }
+// Rules 4 to 9 for the page at a place and its PAR and PDR, given SR0 and what bits 7:1 of it would be loaded with.
+pub fn rule(place: u8, par: u16, pdr: u16, sr0: u16, write: bool, loaded: u16, va: u16) -> Ruling
+    ensures { λ r. ⌜ (paper (r .answer), (r .pdr, r .sr0)) ≡ rulingOf place par pdr sr0 write loaded va ⌝ }
 {
     let right = right_of(pdr);
     let nonresident = !right.read;
@@ -169,6 +174,7 @@ pub fn rule(par: u16, pdr: u16, sr0: u16, write: bool, loaded: u16, va: u16) -> 
         return aborted(pdr, sr0, nonresident, length, readonly, loaded);
     }
     granted(
+        place,
         page::byte_of(par, va),
         pdr,
         sr0,

@@ -5,6 +5,7 @@ use mathlib.Core.Bool.{true, false, cond}
 use mathlib.Core.List.{List, [], _∷_, _++_}
 use lib.ListN.{length, replicate}
 use Rattle.rules.specs.Paper.{G, R, D}
+use Rattle.rules.specs.declared.Served.the-variants.{Page}
 use Rattle.lines.specs.Lines.{Text, lineOf, longest}
 use Rattle.transcript.specs.Turns.{placeAt}
 use Rattle.transcript.specs.Transcript.{turnsFrom, left, transcript}
@@ -56,7 +57,7 @@ InSteps =
     (r : List ℕ) (l : List ℕ) (rooms : List ℕ)
     → AllRoomy rooms → length r + 1 < length rooms → Finished (stepsOf r (placeAt 0 false) l rooms) (transcript r l)
 
--- the whole case of 01, from all registers 0
+-- the whole case of 01, from all registers 0, with the page as request E1 has it
 abbrev pub wholeCaseBytes : List ℕ
 wholeCaseBytes =
     0x03 ∷ 0xEE ∷ 0xF4 ∷ 0x03 ∷ 0x2E ∷ 0x07
@@ -68,4 +69,4 @@ wholeCaseBytes =
 abbrev pub WholeCase : Type 0
 WholeCase =
     transcript wholeCaseBytes (replicate 100 0) .0
-    ≡ lineOf D ++ lineOf D ++ lineOf D ++ lineOf (G 0o355256 false) ++ lineOf (R 0o077406)
+    ≡ lineOf D ++ lineOf D ++ lineOf D ++ lineOf (G 0o355256 false (Page 7)) ++ lineOf (R 0o077406)

@@ -7,6 +7,7 @@ use Rattle.rules.specs.Paper.{Paper}
 use Rattle.rules.specs.Step.{step}
 use Rattle.rules.specs.declared.Answer.the-variants.{Granted}
 use Rattle.rules.specs.declared.Reference.{Reference}
+use Rattle.rules.specs.declared.Served.{Served}
 use Rattle.rules.specs.declared.Event.{Event}
 use Rattle.rules.specs.declared.Event.the-variants.{Refer}
 use Rattle.rules.proofs.Papers.{paperOneToOne}
@@ -32,20 +33,20 @@ together (next e a h p) q = next e a h (together p q)
 
 -- what a call granted, `step` grants in the store that the run comes to
 asked :
-    {m k : List ℕ} (x : List ℕ) (r : Reference) (byte : ℕ) (trap : Bool)
-    → m ≡ k → Applied m (Refer r) (Granted byte trap) x → Given k r byte
-asked x r byte trap here g =
+    {m k : List ℕ} (x : List ℕ) (r : Reference) (byte : ℕ) (trap : Bool) (served : Served)
+    → m ≡ k → Applied m (Refer r) (Granted byte trap served) x → Given k r byte served
+asked x r byte trap served here g =
     let granted = sym (ap (λ (o : Paper × List ℕ). o .0) g) in
     (trap, rw here at granted)
 
 pub keptByCalls : KeptByCalls
-keptByCalls l m n on es fs p q calm r byte trap x g phase small a y h =
-    let kept = demand3 .kept l on es fs calm r byte (asked x r byte trap (came-to p) g) phase small in
+keptByCalls l m n on es fs p q calm r byte trap served x g phase small a y h =
+    let kept = demand3 .kept l on es fs calm r byte served (asked x r byte trap served (came-to p) g) phase small in
     let answer = ap (λ (o : Paper × List ℕ). o .0) h in
-    (kept .0, paperOneToOne a (Granted byte (kept .0)) ((rw (came-to (together p q)) at answer) ∙ kept .1))
+    (kept .0, paperOneToOne a (Granted byte (kept .0) served) ((rw (came-to (together p q)) at answer) ∙ kept .1))
 
 pub neverSharedByCalls : NeverSharedByCalls
-neverSharedByCalls l m n o on es fs gs p q s calm clear r t byte trap again x y g h =
+neverSharedByCalls l m n o on es fs gs p q s calm clear r t byte trap again served other x y g h =
     demand3 .neverShared l on (es ++ (fs ++ gs)) es (fs ++ gs) (es ++ fs) gs refl (sym (append-assoc es fs gs)) calm
-    (rw (came-to (together p (together q s))) at clear) r t byte
-    (asked x r byte trap (came-to p) g) (asked y t byte again (came-to (together p q)) h)
+    (rw (came-to (together p (together q s))) at clear) r t byte served other
+    (asked x r byte trap served (came-to p) g) (asked y t byte again other (came-to (together p q)) h)

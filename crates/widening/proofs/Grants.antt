@@ -10,80 +10,49 @@ use borrow.Author.Tests.{eqb-true, eq-eqb, le-ltb, leb-true, ltb-false}
 use Rattle.page.specs.Fields.{lengthOf, edOf, blockOf}
 use Rattle.page.specs.Length.{lengthError}
 use Rattle.page.specs.Sum.{byteOf}
-use Rattle.rules.specs.Paper.{Paper, G, A, X}
 use Rattle.rules.specs.Keys.{keyOf, readOnly}
-use Rattle.rules.specs.Words.{word, PDR, SR0, SR3, relocates}
-use Rattle.rules.specs.References.{referred, illegalMode, examined, ruled, placeOf, usesD, aborts, traps, nonResidentFlag, readOnlyFlag, flatByte}
+use Rattle.rules.specs.Words.{word, PDR, SR0}
+use Rattle.rules.specs.References.{pageFor, aborts, traps, nonResidentFlag}
 use Rattle.rules.specs.Refusals.{refusalOf, lowest, ofReference}
-use Rattle.rules.specs.Step.{step, accepted}
 use Rattle.rules.specs.declared.Reference.{Reference}
+use Rattle.rules.specs.declared.Served.{Served}
+use Rattle.rules.specs.declared.Served.the-variants.{Page}
 use Rattle.rules.specs.declared.Event.the-variants.{Refer}
 use Rattle.widening.specs.LastMap.{On, Granted, inPhase}
-use Rattle.rules.proofs.Bools.{cond-first, place-small}
+use Rattle.rules.proofs.Bools.{page-small}
+use Rattle.rules.proofs.Referring.{answer, granted-by, answered}
 use Rattle.widening.proofs.Wider.{PageWider, Wider}
 
--- rule 3: the page that a reference uses
-abbrev pub pageFor : List ℕ → Reference → ℕ
-pageFor l r = placeOf (r .mode) (usesD (word l SR3) (r .mode) (r .space)) (r .va)
-
--- what a grant at a byte comes to
-pub record Grant (l : List ℕ) (r : Reference) (byte : ℕ) : Type 0 where
+-- what a grant at a byte by a page comes to
+pub record Grant (l : List ℕ) (r : Reference) (byte : ℕ) (served : Served) : Type 0 where
   pub accepts : lowest (ofReference r) ≡ 0
   pub legal : eqb (r .mode) 2 ≡ false
   pub free : aborts (word l (PDR (pageFor l r))) (eqb (r .access) 1) (r .va) ≡ false
   pub lies : byte ≡ byteOf (word l (pageFor l r)) (r .va)
-
--- the tests of an answer: x accepted, y relocation on, z mode 2, a an abort
-answer : Bool → Bool → Bool → Bool → (n f : ℕ) → (p q s : Bool) → ℕ → Bool → Paper
-answer x y z a n f p q s byte trap = cond x (cond y (cond z (A true false false) (cond a (A p q s) (G byte trap))) (G f false)) (X n)
-
-taken : (x y z a : Bool) (n f : ℕ) (p q s : Bool) (byte b : ℕ) (trap t : Bool) → y ≡ true → answer x y z a n f p q s byte trap ≡ G b t
-    → (x ≡ true) × (z ≡ false) × (a ≡ false) × (b ≡ byte)
-unfolding answer
-taken false y z a n f p q s byte b trap t o h = let e : _≡_ {A = ℕ} 0 1 = cc in absurd (omega arith)
-taken true false z a n f p q s byte b trap t o h = absurd (false≢true o)
-taken true true true a n f p q s byte b trap t o h = let e : _≡_ {A = ℕ} 0 1 = cc in absurd (omega arith)
-taken true true false true n f p q s byte b trap t o h = let e : _≡_ {A = ℕ} 0 1 = cc in absurd (omega arith)
-taken true true false false n f p q s byte b trap t o h = (refl, refl, refl, cc)
+  pub serves : served ≡ Page (pageFor l r)
 
 module _ (l : List ℕ) (r : Reference) where
-  page : ℕ
-  page = pageFor l r
-
-  pdr : ℕ
-  pdr = word l (PDR page)
-
-  write : Bool
-  write = eqb (r .access) 1
-
-  -- the answer to a reference, by those tests
-  answered : step l (Refer r) .0
-      ≡ answer (eqb (refusalOf l (Refer r)) 0) (relocates (word l SR0)) (eqb (r .mode) 2) (aborts pdr write (r .va))
-      (refusalOf l (Refer r)) (flatByte (r .va)) (nonResidentFlag pdr) (lengthError pdr (blockOf (r .va))) (readOnlyFlag pdr write)
-      (byteOf (word l page) (r .va)) (traps (word l SR0) pdr write)
-  unfolding step accepted referred illegalMode examined ruled answer page pdr write
-  answered = simp cond-first
-
   refusal-of : length l ≡ 100 → refusalOf l (Refer r) ≡ lowest (ofReference r)
   unfolding refusalOf
   refusal-of whole = rw (eq-eqb (length l) 100 whole)
 
-  pub grant-of : On l → (byte : ℕ) → Granted l r byte → Grant l r byte
-  unfolding page pdr write
-  grant-of o byte g =
-      let t = taken _ _ _ _ _ _ _ _ _ _ byte _ (g .0) (o .relocating) (sym answered ∙ g .1) in
+  pub grant-of : On l → (byte : ℕ) (served : Served) → Granted l r byte served → Grant l r byte served
+  grant-of o byte served g =
+      let t = granted-by _ _ _ _ _ _ _ _ _ _ byte _ (g .0) _ served (sym (answered l r) ∙ g .1) in
+      let u = t .2 (o .relocating) in
       record {
         accepts = sym (refusal-of (o .whole)) ∙ eqb-true (refusalOf l (Refer r)) 0 (t .0);
-        legal = t .1;
-        free = t .2;
-        lies = t .3;
+        legal = u .0;
+        free = u .1;
+        lies = u .2;
+        serves = t .1 ∙ rw (o .relocating);
       }
 
-  pub granted-of : On l → (byte : ℕ) → Grant l r byte → Granted l r byte
-  unfolding page pdr write answer
-  granted-of o byte g = (
-    traps (word l SR0) pdr write,
-    answered ∙ rw (refusal-of (o .whole), g .accepts, o .relocating, g .legal, g .free, g .lies),
+  pub granted-of : On l → (byte : ℕ) (served : Served) → Grant l r byte served → Granted l r byte served
+  unfolding answer
+  granted-of o byte served g = (
+    traps (word l SR0) (word l (PDR (pageFor l r))) (eqb (r .access) 1),
+    answered l r ∙ rw (refusal-of (o .whole), g .accepts, o .relocating, g .legal, g .free, g .lies, g .serves),
   )
 
 -- the length test over its direction: n a block of no length error
@@ -116,13 +85,14 @@ accepts-phase false true c d e h f = absurd (omega arith)
 accepts-phase false false true d e h f = absurd (omega arith)
 accepts-phase false false false d e h f = rw f
 
--- a wider map keeps every grant, at the same byte
-pub grant-kept : (l m : List ℕ) → Wider l m → (r : Reference) (byte : ℕ) → Grant l r byte → (phase : ℕ) → phase ≤ 1 → Grant m (inPhase phase r) byte
-grant-kept l m w r byte g phase small =
+-- a wider map keeps every grant, at the same byte by the same page
+pub grant-kept : (l m : List ℕ) → Wider l m → (r : Reference) (byte : ℕ) (served : Served) → Grant l r byte served
+    → (phase : ℕ) → phase ≤ 1 → Grant m (inPhase phase r) byte served
+grant-kept l m w r byte served g phase small =
     let p = pageFor l r in
     let pdr = word l (PDR p) in
     let t = no-flag (nonResidentFlag pdr) (lengthError pdr (blockOf (r .va))) (eqb (r .access) 1) (readOnly (keyOf pdr)) (g .free) in
-    let q = w .pages p (place-small (r .mode) (usesD (word l SR3) (r .mode) (r .space)) (r .va)) (t .0) in
+    let q = w .pages p (page-small l r) (t .0) in
     let late = le-ltb 1 phase small in
     let same : pageFor m r ≡ pageFor l r = rw (w .sr3) in
     record {
@@ -130,4 +100,5 @@ grant-kept l m w r byte g phase small =
       legal = g .legal;
       free = rw same (free-flag _ _ (eqb (r .access) 1) _ (q .resident) (no-length-error q (blockOf (r .va)) (t .1)) (λ e. q .writable (t .2 e)));
       lies = g .lies ∙ rw (same, q .base);
+      serves = g .serves ∙ rw same;
     }

@@ -10,8 +10,9 @@ use Rattle.page.specs.Fields.{blockOf, pageOf}
 use Rattle.page.specs.Length.{lengthError}
 use Rattle.rules.specs.Keys.{keyOf, nonResident, readOnly}
 use Rattle.rules.specs.Words.{word, PDR, SR3, bit, enablesD}
-use Rattle.rules.specs.References.{nonResidentFlag}
+use Rattle.rules.specs.References.{pageFor, nonResidentFlag}
 use Rattle.rules.specs.declared.Reference.{Reference}
+use Rattle.rules.specs.declared.Served.{Served}
 use Rattle.rules.specs.declared.Event.{Event}
 use Rattle.widening.specs.Reaches.{isMode, reaches}
 use Rattle.widening.specs.Runs.{after, calm}
@@ -19,17 +20,18 @@ use Rattle.widening.specs.LastMap.{On, Granted, Kept, GrantsReached, Rea
 use Rattle.widening.proofs.Wider.{Wider}
 use Rattle.rules.proofs.Bools.{first-small}
 use Rattle.widening.proofs.Steps.{calm-append, stays-on, later-wider}
-use Rattle.widening.proofs.Grants.{grant-of, granted-of, grant-kept, no-flag, no-length-error, pageFor}
+use Rattle.widening.proofs.Grants.{grant-of, granted-of, grant-kept, no-flag, no-length-error}
 use Rattle.widening.proofs.Reached.{reached, reaching, apartIs}
 
 pub staysOn : StaysOn
 staysOn = stays-on
 
 pub kept : Kept
-kept l o es fs h r byte g phase small =
+kept l o es fs h r byte served g phase small =
     let before = stays-on l o es (calm-append l es fs h .0) in
-    granted-of (after l (es ++ fs)) _ (stays-on l o (es ++ fs) h) byte
-    (grant-kept (after l es) (after l (es ++ fs)) (later-wider l o es fs h) r byte (grant-of (after l es) r before byte g) phase small)
+    granted-of (after l (es ++ fs)) _ (stays-on l o (es ++ fs) h) byte served
+    (grant-kept (after l es) (after l (es ++ fs)) (later-wider l o es fs h) r byte served
+    (grant-of (after l es) r before byte served g) phase small)
 
 -- a mode that is not refused and not 2
 is-mode : (m : ℕ) → m ≤ 3 → (m ≡ 2 → ⊥) → isMode m ≡ true
@@ -51,8 +53,8 @@ in-sets false true p h = omega arith
 in-sets false false p h = omega arith
 
 pub grantsReached : GrantsReached
-grantsReached l o r byte given =
-    let g = grant-of l r o byte given in
+grantsReached l o r byte served given =
+    let g = grant-of l r o byte served given in
     let page = pageFor l r in
     let pdr = word l (PDR page) in
     let sr3 = word l SR3 in
@@ -98,14 +100,15 @@ reachGrows l o es fs h mode block =
 
 -- what is granted at a point of the run is reached in the last map
 granted-last : (l : List ℕ) → On l → (run es fs : List Event) → run ≡ es ++ fs → calm l run ≡ true
-    → (r : Reference) (byte : ℕ) → Granted (after l es) r byte → reaches (after l run) (r .mode) (byte / 64) ≡ true
-granted-last l o run es fs e h r byte g =
+    → (r : Reference) (byte : ℕ) (served : Served) → Granted (after l es) r byte served → reaches (after l run) (r .mode) (byte / 64) ≡ true
+granted-last l o run es fs e h r byte served g =
     let c : calm l (es ++ fs) ≡ true = rw e at h in
-    rw e (reachGrows l o es fs c (r .mode) (byte / 64) (grantsReached (after l es) (stays-on l o es (calm-append l es fs c .0)) r byte g))
+    rw e (reachGrows l o es fs c (r .mode) (byte / 64) (grantsReached (after l es) (stays-on l o es (calm-append l es fs c .0)) r byte served g))
 
 pub neverShared : NeverShared
-neverShared l o run es fs gs hs e f h a r q byte x y =
-    apartIs (after l run) .0 a (r .mode) (q .mode) (byte / 64) (granted-last l o run es fs e h r byte x) (granted-last l o run gs hs f h q byte y)
+neverShared l o run es fs gs hs e f h a r q byte served other x y =
+    apartIs (after l run) .0 a (r .mode) (q .mode) (byte / 64) (granted-last l o run es fs e h r byte served x)
+    (granted-last l o run gs hs f h q byte other y)
 
 pub demand3 : Demand3
 demand3 = record { kept = kept; neverShared = neverShared }

@@ -18,7 +18,7 @@ use Rattle.rules.specs.References.{
   illegalMode,
   examined,
   ruled,
-  placeOf,
+  pageFor,
   usesD,
   details,
   nonResidentFlag,
@@ -33,7 +33,7 @@ use Rattle.rules.specs.References.{
 }
 use Rattle.rules.specs.Others.{started, noted, withChange}
 use Rattle.rules.specs.declared.Reference.{Reference}
-use Rattle.rules.proofs.Bools.{cond-last, place-small}
+use Rattle.rules.proofs.Bools.{cond-last, page-small}
 use Rattle.widening.proofs.Fields.{SameFields, same-fields, marked, sr0-low}
 use Rattle.widening.proofs.Wider.{SameMap}
 
@@ -119,8 +119,7 @@ module _ (l : List ℕ) (whole : length l ≡ 100) where
       (same-either l (relocates (word l SR0)) _ _
       (same-either l (eqb (r .mode) 2) _ _
       (set-sr0 l (word l SR0) 0o100000 (details (r .phase) 2 false (r .va)) whole refl (omega arith) (omega arith))
-      (ruled-same (placeOf (r .mode) d (r .va)) (eqb (r .access) 1) (details (r .phase) (r .mode) d (r .va)) (r .va)
-      (place-small (r .mode) d (r .va)) (omega arith)))
+      (ruled-same (pageFor l r) (eqb (r .access) 1) (details (r .phase) (r .mode) d (r .va)) (r .va) (page-small l r) (omega arith)))
       (same-self l))
 
   pub started-same : (n : ℕ) → SameMap l (started l n)

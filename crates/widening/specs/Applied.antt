@@ -9,6 +9,7 @@ use Rattle.rules.specs.Step.{step}
 use Rattle.rules.specs.declared.Answer.{Answer}
 use Rattle.rules.specs.declared.Answer.the-variants.{Granted}
 use Rattle.rules.specs.declared.Reference.{Reference}
+use Rattle.rules.specs.declared.Served.{Served}
 use Rattle.rules.specs.declared.Event.{Event}
 use Rattle.rules.specs.declared.Event.the-variants.{Refer}
 use Rattle.widening.specs.LastMap.{On, inPhase}
@@ -28,13 +29,13 @@ pub data Ran : List ℕ → List Event → List ℕ → Type 0 where
 abbrev pub AlwaysRuns : Type 0
 AlwaysRuns = (l : List ℕ) (es : List Event) → Ran l es (after l es)
 
--- what a call granted once, any later call for it grants again at the same byte
+-- what a call granted once, any later call for it grants again at the same byte by the same page
 abbrev pub KeptByCalls : Type 0
 KeptByCalls =
     (l m n : List ℕ) → On l → (es fs : List Event) → Ran l es m → Ran m fs n → calm l (es ++ fs) ≡ true
-    → (r : Reference) (byte : ℕ) (trap : Bool) (x : List ℕ) → Applied m (Refer r) (Granted byte trap) x
+    → (r : Reference) (byte : ℕ) (trap : Bool) (served : Served) (x : List ℕ) → Applied m (Refer r) (Granted byte trap served) x
     → (phase : ℕ) → phase ≤ 1 → (a : Answer) (y : List ℕ) → Applied n (Refer (inPhase phase r)) a y
-    → (again : Bool) × (a ≡ Granted byte again)
+    → (again : Bool) × (a ≡ Granted byte again served)
 
 -- if the store that the calls come to in the end keeps the modes apart, two calls on the way that granted the same byte, one after es and one after
 -- fs too, granted it to one mode
@@ -42,6 +43,6 @@ abbrev pub NeverSharedByCalls : Type 0
 NeverSharedByCalls =
     (l m n o : List ℕ) → On l → (es fs gs : List Event) → Ran l es m → Ran m fs n → Ran n gs o → calm l (es ++ (fs ++ gs)) ≡ true
     → apart o ≡ true
-    → (r q : Reference) (byte : ℕ) (trap again : Bool) (x y : List ℕ)
-    → Applied m (Refer r) (Granted byte trap) x → Applied n (Refer q) (Granted byte again) y
+    → (r q : Reference) (byte : ℕ) (trap again : Bool) (served other : Served) (x y : List ℕ)
+    → Applied m (Refer r) (Granted byte trap served) x → Applied n (Refer q) (Granted byte again other) y
     → r .mode ≡ q .mode

@@ -8,6 +8,7 @@ use Rattle.rules.specs.Paper.{Paper, G, A, D, X}
 use Rattle.rules.specs.Words.{PDR, SR0}
 use Rattle.rules.specs.declared.Event.{Event}
 use Rattle.rules.specs.declared.Event.the-variants.{Refer, Write}
+use Rattle.rules.specs.declared.Served.the-variants.{Page}
 use Rattle.widening.specs.Reaches.{apart}
 use Rattle.widening.specs.Runs.{after, answers, calm}
 use Rattle.widening.specs.LastMap.{On}
@@ -40,7 +41,9 @@ run =
     ∷ []
 
 abbrev pub answered : List Paper
-answered = G 0o010217 false ∷ G 0o100017 false ∷ G 0o217777 false ∷ D ∷ D ∷ D ∷ D ∷ X 7 ∷ A false false true ∷ G 0o010217 false ∷ []
+answered =
+    G 0o010217 false (Page 0) ∷ G 0o100017 false (Page 16) ∷ G 0o217777 false (Page 32)
+    ∷ D ∷ D ∷ D ∷ D ∷ X 7 ∷ A false false true ∷ G 0o010217 false (Page 0) ∷ []
 
 -- every premise of demand 3 holds of this run, and its answers are these
 pub record Example : Type 0 where

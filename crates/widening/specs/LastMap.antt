@@ -1,6 +1,7 @@
 -- Demand 3: "Audit only the last map. From relocation on, over any sequence of events with no INIT and no write to SR3, in which each accepted
 -- write leaves relocation on and, for a page, only widens: what was granted once is granted again at the same byte; and if in the last map no
--- two modes reach a common block, no byte was granted to two modes at any moment." The sequence is `calm` (Runs); the map is `apart` (Reaches).
+-- two modes reach a common block, no byte was granted to two modes at any moment." Request E1: "the page is the same each time".
+-- The sequence is `calm` (Runs); the map is `apart` (Reaches).
 use Prim.Native.Nat.{ℕ, _/_, _≤_}
 use mathlib.Core.Path.{_≡_}
 use mathlib.Core.Bool.{Bool, true}
@@ -10,6 +11,7 @@ use Rattle.rules.specs.Paper.{G}
 use Rattle.rules.specs.Words.{word, SR0, relocates}
 use Rattle.rules.specs.Step.{step}
 use Rattle.rules.specs.declared.Reference.{Reference}
+use Rattle.rules.specs.declared.Served.{Served}
 use Rattle.rules.specs.declared.Event.{Event}
 use Rattle.rules.specs.declared.Event.the-variants.{Refer}
 use Rattle.widening.specs.Reaches.{reaches, apart}
@@ -20,27 +22,28 @@ pub record On (l : List ℕ) : Type 0 where
   pub whole : length l ≡ 100
   pub relocating : relocates (word l SR0) ≡ true
 
--- a reference is granted at a byte, with or without a trap
-abbrev pub Granted : List ℕ → Reference → ℕ → Type 0
-Granted l r byte = (trap : Bool) × (step l (Refer r) .0 ≡ G byte trap)
+-- a reference is granted at a byte, served by a page or none, with or without a trap
+abbrev pub Granted : List ℕ → Reference → ℕ → Served → Type 0
+Granted l r byte served = (trap : Bool) × (step l (Refer r) .0 ≡ G byte trap served)
 
 -- the same mode, space, access and VA, in a phase
 abbrev pub inPhase : ℕ → Reference → Reference
 inPhase phase r = record { mode = r .mode; space = r .space; access = r .access; phase = phase; va = r .va }
 
--- what was granted once, after es, is granted again at the same byte: there, after any fs that follow, and in either phase
+-- what was granted once, after es, is granted again at the same byte by the same page: there, after any fs that follow, and in either phase
 abbrev pub Kept : Type 0
 Kept =
     (l : List ℕ) → On l → (es fs : List Event) → calm l (es ++ fs) ≡ true
-    → (r : Reference) (byte : ℕ) → Granted (after l es) r byte
-    → (phase : ℕ) → phase ≤ 1 → Granted (after l (es ++ fs)) (inPhase phase r) byte
+    → (r : Reference) (byte : ℕ) (served : Served) → Granted (after l es) r byte served
+    → (phase : ℕ) → phase ≤ 1 → Granted (after l (es ++ fs)) (inPhase phase r) byte served
 
 -- if after the whole run no two modes reach a common block, a byte granted at two moments, after es and after gs, was granted to one mode
 abbrev pub NeverShared : Type 0
 NeverShared =
     (l : List ℕ) → On l → (run es fs gs hs : List Event) → run ≡ es ++ fs → run ≡ gs ++ hs → calm l run ≡ true
     → apart (after l run) ≡ true
-    → (r q : Reference) (byte : ℕ) → Granted (after l es) r byte → Granted (after l gs) q byte → r .mode ≡ q .mode
+    → (r q : Reference) (byte : ℕ) (served other : Served) → Granted (after l es) r byte served → Granted (after l gs) q byte other
+    → r .mode ≡ q .mode
 
 pub record Demand3 : Type 0 where
   pub kept : Kept
@@ -53,7 +56,7 @@ StaysOn = (l : List ℕ) → On l → (es : List Event) → calm l es ≡ true �
 -- a byte granted to a mode lies in a block that the mode reaches
 abbrev pub GrantsReached : Type 0
 GrantsReached =
-    (l : List ℕ) → On l → (r : Reference) (byte : ℕ) → Granted l r byte → reaches l (r .mode) (byte / 64) ≡ true
+    (l : List ℕ) → On l → (r : Reference) (byte : ℕ) (served : Served) → Granted l r byte served → reaches l (r .mode) (byte / 64) ≡ true
 
 -- what a mode reaches at a point of the run it reaches at every later point
 abbrev pub ReachGrows : Type 0

@@ -10,27 +10,33 @@ use Rattle.rules.specs.Words.{word, SR0, SR3, relocates}
 use Rattle.rules.specs.Step.{step}
 use Rattle.rules.specs.declared.Event.{Event}
 use Rattle.rules.specs.declared.Event.the-variants.{Write, Init}
+use Rattle.rules.specs.declared.Served.{Served}
+use Rattle.rules.specs.declared.Served.the-variants.{Page, None}
 use Rattle.widening.specs.Reaches.{apart}
 use Rattle.widening.specs.Runs.{after}
 use Rattle.widening.specs.Premises.{premises}
 use Rattle.widening.specs.Example.{mapping, refer}
 
 -- one line: the premise dropped (0 relocation on at first, 1 no INIT, 2 no write to SR3, 3 relocation left on, 4 PAR, 5 ED, 6 length, 7 rights);
--- a store; a reference that it grants, at a byte; the step; and the answer to the same reference after the step
+-- a store; a reference that it grants, at a byte by a page; the step; and the answer to the same reference after the step
 pub record Line : Type 0 where
   pub premise : ℕ
   pub store : List ℕ
   pub asks : Event
   pub byte : ℕ
+  pub served : Served
   pub drops : Event
   pub again : Paper
 
-abbrev pub line : ℕ → List ℕ → Event → ℕ → Event → Paper → Line
-line n l r b e a = record { premise = n; store = l; asks = r; byte = b; drops = e; again = a }
+abbrev pub line : ℕ → List ℕ → Event → ℕ → Served → Event → Paper → Line
+line n l r b p e a = record { premise = n; store = l; asks = r; byte = b; served = p; drops = e; again = a }
 
--- and a reference of User that is granted the same byte after the step
-abbrev pub both : ℕ → List ℕ → Event → ℕ → Event → Paper → Event → Line × Event
-both n l r b e a q = (line n l r b e a, q)
+-- and a reference of User that is granted the same byte after the step, by a page or none
+abbrev pub Both : Type 0
+Both = Line × Event × Served
+
+abbrev pub both : ℕ → List ℕ → Event → ℕ → Served → Event → Paper → Event → Served → Both
+both n l r b p e a q s = (line n l r b p e a, q, s)
 
 -- SR0, then PAR and PDR of page 0 of Kernel I and of User I; every other word 0
 abbrev pub holding : ℕ → ℕ → ℕ → ℕ → ℕ → List ℕ
@@ -48,31 +54,40 @@ kernel va = refer 0 0 1 va
 abbrev pub user : ℕ → Event
 user va = refer 3 0 1 va
 
-abbrev pub sharing : List (Line × Event)
+abbrev pub sharing : List Both
 sharing =
     -- relocation off at first, then on
-    both 0 (holding 0 0o100 0o077406 0 0o000406) (kernel 0o017) 0o000017 (Write 0o777572 1) (G 0o010017 false) (user 0o017)
+    both 0 (holding 0 0o100 0o077406 0 0o000406) (kernel 0o017) 0o000017 None (Write 0o777572 1) (G 0o010017 false (Page 0))
+    (user 0o017) (Page 32)
     -- INIT
-    ∷ both 1 (holding 1 0o100 0o077406 0o1000 0o077406) (kernel 0o217) 0o010217 Init (G 0o000217 false) (user 0o010217)
+    ∷ both 1 (holding 1 0o100 0o077406 0o1000 0o077406) (kernel 0o217) 0o010217 (Page 0) Init (G 0o000217 false None)
+    (user 0o010217) None
     -- SR3 disables D for Kernel
-    ∷ both 2 (withD (holding 1 0o100 0o077406 0o1000 0o077406)) (refer 0 1 1 0o217) 0o100217 (Write 0o772516 0) (G 0o010217 false) (user 0o217)
+    ∷ both 2 (withD (holding 1 0o100 0o077406 0o1000 0o077406)) (refer 0 1 1 0o217) 0o100217 (Page 8) (Write 0o772516 0) (G 0o010217 false (Page 0))
+    (user 0o217) (Page 32)
     -- SR0 bit 0 is written 0
-    ∷ both 3 (holding 1 0o100 0o077406 0o1000 0o077406) (kernel 0o217) 0o010217 (Write 0o777572 0) (G 0o000217 false) (user 0o010217)
+    ∷ both 3 (holding 1 0o100 0o077406 0o1000 0o077406) (kernel 0o217) 0o010217 (Page 0) (Write 0o777572 0) (G 0o000217 false None)
+    (user 0o010217) None
     -- another PAR at a resident page
-    ∷ both 4 (holding 1 0o100 0o077406 0o100 0o077406) (kernel 0o217) 0o010217 (Write 0o772340 0o300) (G 0o030217 false) (user 0o217)
+    ∷ both 4 (holding 1 0o100 0o077406 0o100 0o077406) (kernel 0o217) 0o010217 (Page 0) (Write 0o772340 0o300) (G 0o030217 false (Page 0))
+    (user 0o217) (Page 32)
     -- ED 0 becomes 1
-    ∷ both 5 (holding 1 0o100 0o077406 0o100 0o017406) (kernel 0o217) 0o010217 (Write 0o772300 0o077416) (A false true false) (user 0o217)
+    ∷ both 5 (holding 1 0o100 0o077406 0o100 0o017406) (kernel 0o217) 0o010217 (Page 0) (Write 0o772300 0o077416) (A false true false)
+    (user 0o217) (Page 32)
     -- ED 0, a smaller length; ED 1, a larger one
-    ∷ both 6 (holding 1 0o100 0o077406 0o102 0o017406) (kernel 0o217) 0o010217 (Write 0o772300 0o000406) (A false true false) (user 0o017)
-    ∷ both 6 (holding 1 0o100 0o000016 0o100 0o001406) (kernel 0o217) 0o010217 (Write 0o772300 0o002016) (A false true false) (user 0o217)
+    ∷ both 6 (holding 1 0o100 0o077406 0o102 0o017406) (kernel 0o217) 0o010217 (Page 0) (Write 0o772300 0o000406) (A false true false)
+    (user 0o017) (Page 32)
+    ∷ both 6 (holding 1 0o100 0o000016 0o100 0o001406) (kernel 0o217) 0o010217 (Page 0) (Write 0o772300 0o002016) (A false true false)
+    (user 0o217) (Page 32)
     -- key 6 becomes 0
-    ∷ both 7 (holding 1 0o100 0o077406 0o100 0o077406) (kernel 0o217) 0o010217 (Write 0o772300 0o077400) (A true false false) (user 0o217)
+    ∷ both 7 (holding 1 0o100 0o077406 0o100 0o077406) (kernel 0o217) 0o010217 (Page 0) (Write 0o772300 0o077400) (A true false false)
+    (user 0o217) (Page 32)
     ∷ []
 
 -- key 6 becomes 2: the write is lost, but Kernel still reaches the block
 abbrev pub table : List Line
 table =
-    line 7 (holding 1 0o100 0o077406 0o1000 0o077406) (kernel 0o217) 0o010217 (Write 0o772300 0o077402) (A false false true)
+    line 7 (holding 1 0o100 0o077406 0o1000 0o077406) (kernel 0o217) 0o010217 (Page 0) (Write 0o772300 0o077402) (A false false true)
     ∷ map (λ t. t .0) sharing
 
 abbrev pub last : Line → List ℕ
@@ -83,9 +98,9 @@ abbrev pub found : Line → List Bool × Paper × Paper
 found t =
     (relocates (word (t .store) SR0) ∷ premises (t .store) (t .drops), step (t .store) (t .asks) .0, step (last t) (t .asks) .0)
 
--- every premise but one; a grant at the byte; no grant there
+-- every premise but one; a grant at the byte by the page; no grant there
 abbrev pub expected : Line → List Bool × Paper × Paper
-expected t = (set (replicate 8 true) (t .premise) false, G (t .byte) false, t .again)
+expected t = (set (replicate 8 true) (t .premise) false, G (t .byte) false (t .served), t .again)
 
 -- the answers to User, and the last maps
 abbrev pub taken : List Paper
@@ -96,5 +111,5 @@ lasts = map (λ t. last (t .0)) sharing
 
 pub record Needed : Type 0 where
   pub lost : map found table ≡ map expected table
-  pub shared : taken ≡ map (λ t. G (t .0 .byte) false) sharing
+  pub shared : taken ≡ map (λ t. G (t .0 .byte) false (t .2)) sharing
   pub parted : map apart lasts ≡ replicate 9 true

@@ -4,14 +4,18 @@ use borrow.Author.Needs.{needs}
 use Rattle.board.proofs.code.Statement.{statement}
 use Rattle.board.proofs.code.Tie as tie
 
-add-result-2 : tie.Need-add-result-2
-add-result-2 c = let s = rw (c .before .before .a .given .1) at (c .before .before .before .before .pre) in omega arith
+add-result-3 : tie.Need-add-result-3
+add-result-3 c =
+    let at-a = c .before .before .before in
+    let start = at-a .before .before in
+    let s = rw (at-a .a .given .1) at (start .pre) in
+    omega (arith, s .0)
 
-add-result-7 : tie.Need-add-result-7
-add-result-7 c = let s = rw (c .before .before .a4 .given .1) at (c .before .before .before .before .pre) in omega (arith, c .number .ensures)
+add-result-8 : tie.Need-add-result-8
+add-result-8 c = let s = rw (c .before .before .a4 .given .1) at (c .before .before .before .before .pre) in omega (arith, c .number .ensures)
 
 returns : tie.Need-returns
-returns c = rw (c .before .before .a .given .1, ← c .bit .ensures .0)
+returns c = rw (c .before .before .before .a .given .1, ← c .before .bit .ensures .0, ← c .six-bits .ensures .0)
 
 returns-2 : tie.Need-returns-2
 returns-2 c = rw (
@@ -36,7 +40,10 @@ code-spec =
     (λ c. search needs)
     (λ c. search needs)
     (λ c. search needs)
-    add-result-2
+    (λ c κs. search needs)
+    (λ c. search needs)
+    (λ c. search needs)
+    add-result-3
     (λ c. search needs)
     (λ c κs. search needs)
     (λ c. search needs)
@@ -55,7 +62,7 @@ code-spec =
     (λ c. search needs)
     (λ c. search needs)
     (λ c κs. search needs)
-    add-result-7
+    add-result-8
     returns
     returns-2
     returns-3

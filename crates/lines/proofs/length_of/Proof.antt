@@ -1,12 +1,12 @@
 -- The length of each kind of line computes.
 use Rattle.lines.specs.Lines.{lineOf}
+use Rattle.lines.proofs.Lengths.{granted-longest}
 use borrow.Author.Needs.{needs}
 use Rattle.lines.proofs.length_of.Statement.{statement}
 use Rattle.lines.proofs.length_of.Tie as tie
 
 returns : tie.Need-returns
-unfolding lineOf
-returns c = rw (c .enum-told .given .1)
+returns c = rw (c .enum-told .given .1, granted-longest)
 
 returns-2 : tie.Need-returns-2
 unfolding lineOf

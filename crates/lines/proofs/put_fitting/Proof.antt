@@ -1,12 +1,12 @@
 -- Each kind of answer writes its own line.
 use Rattle.lines.specs.Lines.{lineOf}
+use Rattle.lines.proofs.Lengths.{granted-longest}
 use borrow.Author.Needs.{needs}
 use Rattle.lines.proofs.put_fitting.Statement.{statement}
 use Rattle.lines.proofs.put_fitting.Tie as tie
 
 put-granted-requires : tie.Need-put-granted-requires
-unfolding lineOf
-put-granted-requires c κs = rw (c .before .before .a .given .1) at (c .before .before .before .before .before .pre)
+put-granted-requires c κs = rw (c .before .before .a .given .1, granted-longest) at (c .before .before .before .before .before .pre)
 
 put-aborted-requires : tie.Need-put-aborted-requires
 unfolding lineOf

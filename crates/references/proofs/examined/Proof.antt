@@ -1,7 +1,7 @@
 -- `examined` meets its contract: the ruling by value, stored back, is the ruling over the store.
 use borrow.Author.Needs.{needs}
 use Rattle.rules.specs.References.{examined}
-use Rattle.references.proofs.Pages.{by-value}
+use Rattle.references.proofs.Pages.{by-ruling}
 use Rattle.references.proofs.examined.Statement.{statement}
 use Rattle.references.proofs.examined.Tie as tie
 
@@ -10,7 +10,8 @@ unfolding examined
 returns c =
     let at-place-of = c .before .before .before .before .before .before in
     let at-enables-d = at-place-of .before in
-    rw (← at-enables-d .enables-d .ensures, ← at-place-of .place-of .ensures .0, ← c .before .details .ensures, by-value, ← c .rule .ensures)
+    rw (← at-enables-d .enables-d .ensures, ← at-place-of .place-of .ensures .0, ← c .before .details .ensures)
+    (by-ruling _ _ _ _ _ (c .rule .ensures))
 
 pub examined-spec : {M : Type 1} → statement M
 examined-spec =
@@ -25,9 +26,9 @@ examined-spec =
     (λ c. search needs)
     (λ c. search needs)
     (λ c. search needs)
-    (λ c κs. search needs)
-    (λ c κs. search needs)
     (λ c. search needs)
+    (λ c κs. search needs)
+    (λ c κs. search needs)
     (λ c. search needs)
     (λ c. search needs)
     (λ c. search needs)
