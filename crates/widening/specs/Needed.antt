@@ -1,4 +1,4 @@
--- Each premise of demand 3 is needed: a table of single steps, each of which drops one premise alone. The grant is lost,
+-- Each premise of demand 3 is needed: a table of single steps, each of which drops one premise alone. The grant is lost, or its page,
 -- and User is granted the byte that Kernel was granted, although in the last map no two modes reach a common block.
 use Prim.Native.Nat.{ℕ}
 use mathlib.Core.Path.{_≡_}
@@ -43,9 +43,9 @@ abbrev pub holding : ℕ → ℕ → ℕ → ℕ → ℕ → List ℕ
 holding sr0 kernelPar kernelPdr userPar userPdr =
     mapping 0 kernelPar kernelPdr (mapping 32 userPar userPdr (set (replicate 100 0) SR0 sr0))
 
--- SR3 enables D for Kernel, whose D page 0 has another PAR
-abbrev pub withD : List ℕ → List ℕ
-withD l = mapping 8 0o1000 0o077406 (set l SR3 0o000004)
+-- SR3 enables D for Kernel, whose D page 0 has a PAR of its own
+abbrev pub withD : ℕ → List ℕ → List ℕ
+withD par l = mapping 8 par 0o077406 (set l SR3 0o000004)
 
 -- writes by Kernel and by User, space 0
 abbrev pub kernel : ℕ → Event
@@ -63,7 +63,7 @@ sharing =
     ∷ both 1 (holding 1 0o100 0o077406 0o1000 0o077406) (kernel 0o217) 0o010217 (Page 0) Init (G 0o000217 false None)
     (user 0o010217) None
     -- SR3 disables D for Kernel
-    ∷ both 2 (withD (holding 1 0o100 0o077406 0o1000 0o077406)) (refer 0 1 1 0o217) 0o100217 (Page 8) (Write 0o772516 0) (G 0o010217 false (Page 0))
+    ∷ both 2 (withD 0o1000 (holding 1 0o100 0o077406 0o1000 0o077406)) (refer 0 1 1 0o217) 0o100217 (Page 8) (Write 0o772516 0) (G 0o010217 false (Page 0))
     (user 0o217) (Page 32)
     -- SR0 bit 0 is written 0
     ∷ both 3 (holding 1 0o100 0o077406 0o1000 0o077406) (kernel 0o217) 0o010217 (Page 0) (Write 0o777572 0) (G 0o000217 false None)
@@ -84,10 +84,14 @@ sharing =
     (user 0o217) (Page 32)
     ∷ []
 
--- key 6 becomes 2: the write is lost, but Kernel still reaches the block
+-- two more, of the first half alone
 abbrev pub table : List Line
 table =
-    line 7 (holding 1 0o100 0o077406 0o1000 0o077406) (kernel 0o217) 0o010217 (Page 0) (Write 0o772300 0o077402) (A false false true)
+    -- SR3 disables D for Kernel, whose D page 0 and I page 0 lie over the same blocks: the byte is kept, the page is not
+    line 2 (withD 0o100 (holding 1 0o100 0o077406 0o1000 0o077406)) (refer 0 1 1 0o217) 0o010217 (Page 8) (Write 0o772516 0)
+    (G 0o010217 false (Page 0))
+    -- key 6 becomes 2: the write is lost, but Kernel still reaches the block
+    ∷ line 7 (holding 1 0o100 0o077406 0o1000 0o077406) (kernel 0o217) 0o010217 (Page 0) (Write 0o772300 0o077402) (A false false true)
     ∷ map (λ t. t .0) sharing
 
 abbrev pub last : Line → List ℕ
@@ -98,7 +102,7 @@ abbrev pub found : Line → List Bool × Paper × Paper
 found t =
     (relocates (word (t .store) SR0) ∷ premises (t .store) (t .drops), step (t .store) (t .asks) .0, step (last t) (t .asks) .0)
 
--- every premise but one; a grant at the byte by the page; no grant there
+-- every premise but one; a grant at the byte by the page; another answer
 abbrev pub expected : Line → List Bool × Paper × Paper
 expected t = (set (replicate 8 true) (t .premise) false, G (t .byte) false (t .served), t .again)
 
