@@ -13,61 +13,56 @@ use Rattle.page.specs.Sum.{byteOf}
 use Rattle.rules.specs.Paper.{Paper, G, A}
 use Rattle.rules.specs.Keys.{keyOf, nonResident, readOnly, rightOf}
 use Rattle.rules.specs.Words.{word, SR0}
-use Rattle.rules.specs.References.{pageFor, nonResidentFlag, readOnlyFlag, traps, ruled, examined, illegalMode, referred}
+use Rattle.rules.specs.References.{pageFor, flatByte, nonResidentFlag, readOnlyFlag, traps}
 use Rattle.rules.specs.Refusals.{refusalOf}
-use Rattle.rules.specs.Step.{step, accepted}
+use Rattle.rules.specs.Step.{step}
 use Rattle.rules.specs.declared.Reference.{Reference}
 use Rattle.rules.specs.declared.Served.{Served}
-use Rattle.rules.specs.declared.Served.the-variants.{Page}
 use Rattle.rules.specs.declared.Event.the-variants.{Refer}
 use Rattle.claims.specs.Demand2.{Relocated, parFor, pdrFor, writing, Allowed, Barred, Demand2}
-use Rattle.rules.proofs.Bools.{cond-first}
+use Rattle.rules.proofs.Bools.{or-l, or-r}
+use Rattle.rules.proofs.Referring.{answer, granted-by, answered}
 
--- the answer by mode 2, the three flags, the byte, the trap and the page
-abbrev answer : Bool → Bool → Bool → Bool → ℕ → Bool → ℕ → Paper
-answer illegal n e o b t p = cond illegal (A true false false) (cond (n || e || o) (A n e o) (G b t (Page p)))
+-- with relocation on, the answer goes by mode 2, the three flags, the byte, the trap and the page; f is rule 1's byte
+abbrev relocated : Bool → Bool → Bool → Bool → ℕ → ℕ → Bool → ℕ → Paper
+relocated illegal n e o f b t p = answer true true illegal (n || e || o) 0 f n e o b t p
 
--- with relocation on, `step` answers so
-answer-is : (l : List ℕ) (r : Reference) → Relocated l r
-    → step l (Refer r) .0
-    ≡ answer (eqb (r .mode) 2) (nonResidentFlag (pdrFor l r)) (lengthError (pdrFor l r) (blockOf (r .va))) (readOnlyFlag (pdrFor l r) (writing r))
-    (byteOf (parFor l r) (r .va)) (traps (word l SR0) (pdrFor l r) (writing r)) (pageFor l r)
-unfolding step refusalOf accepted referred illegalMode examined ruled
-answer-is l r h =
+not-refused : (l : List ℕ) (r : Reference) → Relocated l r → refusalOf l (Refer r) ≡ 0
+unfolding refusalOf
+not-refused l r h =
     rw (
       eq-eqb (length l) 100 (h .whole),
       le-ltb 3 (r .mode) (h .moded),
       le-ltb 1 (r .space) (h .spaced),
       le-ltb 1 (r .access) (h .accessed),
       le-ltb 1 (r .phase) (h .phased),
-      h .on,
     )
-    (simp cond-first)
 
-grant-there : (i n e o : Bool) (b c : ℕ) (t u : Bool) (p : ℕ) (s : Served) → answer i n e o b t p ≡ G c u s
-    → (i ≡ false) × ((n ≡ false) × ((e ≡ false) × ((o ≡ false) × ((b ≡ c) × ((t ≡ u) × (Page p ≡ s))))))
-grant-there true n e o b c t u p s h = let z : _≡_ {A = ℕ} 0 1 = cc in absurd (omega arith)
-grant-there false true e o b c t u p s h = let z : _≡_ {A = ℕ} 0 1 = cc in absurd (omega arith)
-grant-there false false true o b c t u p s h = let z : _≡_ {A = ℕ} 0 1 = cc in absurd (omega arith)
-grant-there false false false true b c t u p s h = let z : _≡_ {A = ℕ} 0 1 = cc in absurd (omega arith)
-grant-there false false false false b c t u p s h = (refl, (refl, (refl, (refl, (cc, (cc, cc))))))
+answer-is : (l : List ℕ) (r : Reference) → Relocated l r
+    → step l (Refer r) .0
+    ≡ relocated (eqb (r .mode) 2)
+    (nonResidentFlag (pdrFor l r)) (lengthError (pdrFor l r) (blockOf (r .va))) (readOnlyFlag (pdrFor l r) (writing r)) (flatByte (r .va))
+    (byteOf (parFor l r) (r .va)) (traps (word l SR0) (pdrFor l r) (writing r)) (pageFor l r)
+answer-is l r h = answered l r ∙ rw (not-refused l r h, h .on)
 
-abort-there : (i n e o : Bool) (b : ℕ) (t : Bool) (k : ℕ) (x y z : Bool) → answer i n e o b t k ≡ A x y z
+abort-there : (i n e o : Bool) (f b : ℕ) (t : Bool) (k : ℕ) (x y z : Bool) → relocated i n e o f b t k ≡ A x y z
     → (cond i true n ≡ x) × ((cond i false e ≡ y) × ((cond i false o ≡ z) × ((x || y || z) ≡ true)))
-abort-there true n e o b t k x y z h = let p : true ≡ x = cc in (p, (cc, (cc, rw (← p))))
-abort-there false true e o b t k x y z h = let p : true ≡ x = cc in (p, (cc, (cc, rw (← p))))
-abort-there false false true o b t k x y z h = let p : false ≡ x = cc in let q : true ≡ y = cc in (p, (q, (cc, rw (← p, ← q))))
-abort-there false false false true b t k x y z h =
+unfolding answer
+abort-there true n e o f b t k x y z h = let p : true ≡ x = cc in (p, (cc, (cc, rw (← p))))
+abort-there false true e o f b t k x y z h = let p : true ≡ x = cc in (p, (cc, (cc, rw (← p))))
+abort-there false false true o f b t k x y z h = let p : false ≡ x = cc in let q : true ≡ y = cc in (p, (q, (cc, rw (← p, ← q))))
+abort-there false false false true f b t k x y z h =
     let p : false ≡ x = cc in
     let q : false ≡ y = cc in
     let r : true ≡ z = cc in
     (p, (q, (r, rw (← p, ← q, ← r))))
-abort-there false false false false b t k x y z h = let w : _≡_ {A = ℕ} 0 1 = cc in absurd (omega arith)
+abort-there false false false false f b t k x y z h = let w : _≡_ {A = ℕ} 0 1 = cc in absurd (omega arith)
 
-abort-back : (i n e o : Bool) (b : ℕ) (t : Bool) (k : ℕ) (x y z : Bool)
-    → cond i true n ≡ x → cond i false e ≡ y → cond i false o ≡ z → (x || y || z) ≡ true → answer i n e o b t k ≡ A x y z
-abort-back true n e o b t k x y z p q r f = cc
-abort-back false n e o b t k x y z p q r f = rw (p, q, r, f)
+abort-back : (i n e o : Bool) (f b : ℕ) (t : Bool) (k : ℕ) (x y z : Bool)
+    → cond i true n ≡ x → cond i false e ≡ y → cond i false o ≡ z → (x || y || z) ≡ true → relocated i n e o f b t k ≡ A x y z
+unfolding answer
+abort-back true n e o f b t k x y z p q r s = cc
+abort-back false n e o f b t k x y z p q r s = rw (p, q, r, s)
 
 -- a key's right for an access, and the flags that it leaves clear
 right-there : (w n o : Bool) → n ≡ false → (w && o) ≡ false → cond w (not n && not o) (not n) ≡ true
@@ -88,20 +83,24 @@ granted-there : (l : List ℕ) (r : Reference) → Relocated l r
 unfolding rightOf
 granted-there l r h byte trap served g =
     let key = keyOf (pdrFor l r) in
-    let q = grant-there (eqb (r .mode) 2) (nonResident key) (lengthError (pdrFor l r) (blockOf (r .va))) (readOnlyFlag (pdrFor l r) (writing r))
-    (byteOf (parFor l r) (r .va)) byte (traps (word l SR0) (pdrFor l r) (writing r)) trap (pageFor l r) served (sym (answer-is l r h) ∙ g) in
+    let n = nonResident key in
+    let e = lengthError (pdrFor l r) (blockOf (r .va)) in
+    let o = readOnlyFlag (pdrFor l r) (writing r) in
+    let t = granted-by _ _ _ _ _ _ _ _ _ _ byte _ trap _ served (sym (answer-is l r h) ∙ g) in
+    let u = t .2 refl in
+    let first = or-l (n || e) o (u .1) in
     record {
-      legal = q .0;
-      right = right-there (writing r) (nonResident key) (readOnly key) (q .1 .0) (q .1 .1 .1 .0);
-      within = q .1 .1 .0;
-      sum = q .1 .1 .1 .1 .0;
-      trapped = q .1 .1 .1 .1 .1 .0;
-      page = q .1 .1 .1 .1 .1 .1;
+      legal = u .0;
+      right = right-there (writing r) n (readOnly key) (or-l n e first) (or-r (n || e) o (u .1));
+      within = or-r n e first;
+      sum = sym (u .2);
+      trapped = sym (u .3);
+      page = sym (t .1);
     }
 
 granted-back : (l : List ℕ) (r : Reference) → Relocated l r
     → (byte : ℕ) (trap : Bool) (served : Served) → Allowed l r byte trap served → step l (Refer r) .0 ≡ G byte trap served
-unfolding rightOf
+unfolding rightOf answer
 granted-back l r h byte trap served a =
     let key = keyOf (pdrFor l r) in
     let q = right-back (writing r) (nonResident key) (readOnly key) (a .right) in
@@ -110,7 +109,7 @@ granted-back l r h byte trap served a =
 aborted-there : (l : List ℕ) (r : Reference) → Relocated l r → (n e o : Bool) → step l (Refer r) .0 ≡ A n e o → Barred l r n e o
 aborted-there l r h n e o g =
     let q = abort-there (eqb (r .mode) 2) (nonResidentFlag (pdrFor l r)) (lengthError (pdrFor l r) (blockOf (r .va)))
-    (readOnlyFlag (pdrFor l r) (writing r))
+    (readOnlyFlag (pdrFor l r) (writing r)) (flatByte (r .va))
     (byteOf (parFor l r) (r .va)) (traps (word l SR0) (pdrFor l r) (writing r)) (pageFor l r) n e o (sym (answer-is l r h) ∙ g) in
     record { absent = q .0; beyond = q .1 .0; unwritable = q .1 .1 .0; flagged = q .1 .1 .1 }
 
@@ -118,7 +117,8 @@ aborted-back : (l : List ℕ) (r : Reference) → Relocated l r → (n e o : Boo
 aborted-back l r h n e o b =
     answer-is l r h
     ∙ abort-back (eqb (r .mode) 2) (nonResidentFlag (pdrFor l r)) (lengthError (pdrFor l r) (blockOf (r .va))) (readOnlyFlag (pdrFor l r) (writing r))
-    (byteOf (parFor l r) (r .va)) (traps (word l SR0) (pdrFor l r) (writing r)) (pageFor l r) n e o (b .absent) (b .beyond) (b .unwritable) (b .flagged)
+    (flatByte (r .va)) (byteOf (parFor l r) (r .va)) (traps (word l SR0) (pdrFor l r) (writing r)) (pageFor l r) n e o
+    (b .absent) (b .beyond) (b .unwritable) (b .flagged)
 
 pub demand2 : Demand2
 demand2 =

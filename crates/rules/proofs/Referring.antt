@@ -37,17 +37,17 @@ answer x y z a n f nonresident length readonly byte trap page =
     (cond y (cond z (A true false false) (cond a (A nonresident length readonly) (G byte trap (Page page)))) (G f false None))
     (X n)
 
--- it was not refused; the page is there if relocation is on; and then the mode was legal, nothing aborted it, and the byte is the sum's
+-- it was not refused; a page is there if relocation is on; and then the mode is legal, no flag was set, and byte and trap are the page's
 pub granted-by :
     (x y z a : Bool) (n f : ℕ) (p q s : Bool) (byte b : ℕ) (trap t : Bool) (page : ℕ) (served : Served)
     → answer x y z a n f p q s byte trap page ≡ G b t served
-    → (x ≡ true) × (served ≡ cond y (Page page) None) × (y ≡ true → (z ≡ false) × (a ≡ false) × (b ≡ byte))
+    → (x ≡ true) × (served ≡ cond y (Page page) None) × (y ≡ true → (z ≡ false) × (a ≡ false) × (b ≡ byte) × (t ≡ trap))
 unfolding answer
 granted-by false y z a n f p q s byte b trap t page served h = let e : _≡_ {A = ℕ} 0 1 = cc in absurd (omega arith)
 granted-by true false z a n f p q s byte b trap t page served h = (refl, cc, λ e. absurd (false≢true e))
 granted-by true true true a n f p q s byte b trap t page served h = let e : _≡_ {A = ℕ} 0 1 = cc in absurd (omega arith)
 granted-by true true false true n f p q s byte b trap t page served h = let e : _≡_ {A = ℕ} 0 1 = cc in absurd (omega arith)
-granted-by true true false false n f p q s byte b trap t page served h = (refl, cc, λ e. (refl, refl, cc))
+granted-by true true false false n f p q s byte b trap t page served h = (refl, cc, λ e. (refl, refl, cc, cc))
 
 module _ (l : List ℕ) (r : Reference) where
   abbrev pdr : ℕ
