@@ -11,7 +11,7 @@ returns c =
     let at-place-of = c .before .before .before .before .before .before in
     let at-enables-d = at-place-of .before in
     rw (← at-enables-d .enables-d .ensures, ← at-place-of .place-of .ensures .0, ← c .before .details .ensures)
-    (by-ruling _ _ _ _ _ (c .rule .ensures))
+    (by-ruling _ (at-place-of .place-of .result) _ _ _ (c .rule .ensures))
 
 pub examined-spec : {M : Type 1} → statement M
 examined-spec =
