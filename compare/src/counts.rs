@@ -2,7 +2,7 @@
 
 use crate::edges::{Counts, EDGES};
 use crate::fields::PDR;
-use crate::print::server_text;
+use crate::print::page_text;
 
 const ANSWERS: [&str; 5] = [
     "granted, no trap",
@@ -33,7 +33,7 @@ impl Counts {
         }
         for (place, count) in self.pages.iter().enumerate() {
             let page = (place < PDR).then_some(place as u8);
-            rows.push((format!("granted, {}", server_text(page)), *count));
+            rows.push((format!("granted, {}", page_text(page)), *count));
         }
         for (words, count) in EDGES.iter().zip(self.edges) {
             rows.push((words.to_string(), count));

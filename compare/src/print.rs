@@ -31,7 +31,7 @@ pub fn answer_text(answer: Answer) -> String {
         Answer::Granted { byte, page, trap } => format!(
             "granted {byte:06o}{}, {}",
             if trap { " trap" } else { "" },
-            server_text(page)
+            page_text(page)
         ),
         Answer::Aborted {
             nonresident,
@@ -50,7 +50,7 @@ pub fn answer_text(answer: Answer) -> String {
 }
 
 /// The page that served a grant, as `page 47`.
-pub fn server_text(page: Option<u8>) -> String {
+pub fn page_text(page: Option<u8>) -> String {
     match page {
         Some(place) => format!("page {place}"),
         None => "no page".to_string(),

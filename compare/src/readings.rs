@@ -87,7 +87,7 @@ pub fn readings() -> Vec<Reading> {
     all.extend(lengths());
     all.extend(two_flags());
     all.extend(status());
-    all.extend(servers());
+    all.extend(pages_served());
     all
 }
 
@@ -232,7 +232,7 @@ fn status() -> Vec<Reading> {
 }
 
 /// Request E1: the page that served.
-fn servers() -> Vec<Reading> {
+fn pages_served() -> Vec<Reading> {
     let on = (SR0, 0o000001);
     let data = reference(3, 1, READ, 0, 0o160000);
     vec![

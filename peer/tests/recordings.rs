@@ -26,7 +26,7 @@ fn the_limit_is_32_768_bytes() {
 }
 
 #[test]
-fn full_recordings_of_the_longest_lines() {
+fn full_recordings_of_reads_and_of_references() {
     let reads = [2, 0x7A, 0xFF, 0x03].repeat(8192);
     text(&reads, &"R 000000\n".repeat(8192));
     let references = [1, 0, 0, 0, 0, 0, 0].repeat(4681);

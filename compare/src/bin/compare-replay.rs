@@ -15,10 +15,26 @@ const USAGE: &str = "compare-replay [--recordings N] [--seed N] [--emulator COMM
      COMMAND, as \"qemu-x86_64\", runs the program PROVED";
 const RECORDINGS: u64 = 1_000;
 
-/// The line beginnings that a run must have met: each answer and refusals 2 to 13.
-const WANTED: [&str; 16] = [
-    "G", "A", "R", "D", "X 02", "X 03", "X 04", "X 05", "X 06", "X 07", "X 08", "X 09", "X 10",
-    "X 11", "X 12", "X 13",
+/// The kinds of line that a run must have met: each answer, a grant by a page and one by none,
+/// and refusals 2 to 13.
+const WANTED: [&str; 17] = [
+    "G, a page",
+    "G, no page",
+    "A",
+    "R",
+    "D",
+    "X 02",
+    "X 03",
+    "X 04",
+    "X 05",
+    "X 06",
+    "X 07",
+    "X 08",
+    "X 09",
+    "X 10",
+    "X 11",
+    "X 12",
+    "X 13",
 ];
 
 struct Programs {
@@ -55,8 +71,8 @@ fn main() -> ExitCode {
         }
         passed += 1;
     }
-    for (beginning, count) in &lines {
-        println!("{count:>12}  {beginning}");
+    for (kind, count) in &lines {
+        println!("{count:>12}  {kind}");
     }
     let missed = WANTED.iter().filter(|wanted| !lines.contains_key(**wanted));
     let missed = missed.inspect(|wanted| println!("never met: {wanted}"));
@@ -67,7 +83,7 @@ fn main() -> ExitCode {
 }
 
 impl Programs {
-    /// 01's own recording, held to 01's own text: a program that can't be run stops here.
+    /// 01's own recording, held to 01's text with the page of request E1: a program that can't be run stops here.
     fn check_whole_case(&self) {
         for program in [&self.proved, &self.peer] {
             match program.run(&whole_case()) {
@@ -115,11 +131,15 @@ fn print_text(name: &str, text: Result<Vec<u8>, String>) {
     }
 }
 
-/// Counts lines by their beginnings: a letter, and with X the number.
+/// Counts lines by kind: a letter, with G whether a page served, and with X the number.
 fn count_lines(text: &[u8], lines: &mut BTreeMap<String, u64>) {
     for line in String::from_utf8_lossy(text).lines() {
-        let length = if line.starts_with('X') { 4 } else { 1 };
-        let beginning = line.get(..length).unwrap_or(line);
-        *lines.entry(beginning.to_string()).or_default() += 1;
+        let kind = match line.as_bytes().first() {
+            Some(b'G') if line.ends_with("--") => "G, no page",
+            Some(b'G') => "G, a page",
+            Some(b'X') => line.get(..4).unwrap_or(line),
+            _ => line.get(..1).unwrap_or(line),
+        };
+        *lines.entry(kind.to_string()).or_default() += 1;
     }
 }

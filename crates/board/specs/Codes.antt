@@ -13,7 +13,7 @@ use Rattle.rules.specs.declared.Served.the-variants.{Page, None}
 use Rattle.rules.specs.declared.Event.{Event}
 use Rattle.rules.specs.declared.Event.the-variants.{Refer, Read, Write, Instruction, Interrupt, Change, Init}
 
--- the page that served: its place, or 63 for none
+-- request E1: what goes to bits 23:18, the place of the page that served, or 63 for none
 abbrev pub sixBits : Served → ℕ
 sixBits (Page place) = place
 sixBits None = 63

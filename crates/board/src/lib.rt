@@ -11,7 +11,7 @@ use rules::Answer;
 use rules::Reference;
 use rules::Served;
 
-// The page that served in six bits: its place, or 63 for none.
+// What goes to bits 23:18: the place of the page that served, or 63 for none. `Small` says that it has room there.
 fn six_bits(served: Served) -> u32
     ensures { λ n. ⌜ (n ≡ sixBits served) × (n ≤ 255) ⌝ }
 {

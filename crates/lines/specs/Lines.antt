@@ -17,7 +17,7 @@ Text = List ℕ
 abbrev pub character : ℕ → Text
 character c = c ∷ []
 
--- the page that served: its place in two decimal digits, or `--`
+-- request E1: the page that served, its place in two decimal digits, or `--`
 abbrev pub servedText : Served → Text
 servedText (Page place) = decimal 2 place
 servedText None = 45 ∷ 45 ∷ []

@@ -146,7 +146,7 @@ pub fn length_of(a: Answer) -> usize
             byte: _,
             trap: _,
             served: _,
-        } => 14,
+        } => LONGEST,
         Answer::Aborted {
             nonresident: _,
             length: _,

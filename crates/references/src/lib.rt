@@ -70,17 +70,17 @@ fn examined(s: &mut [u16], r: Reference) -> Answer
     let data = r.space == 1;
     let d = data & enables_d(s[99], r.mode);
     let p = place_of(r.mode, d, r.va);
-    let q = 48 + p; // its PDR
+    let pdr = 48 + p;
     let ruled = ruling::rule(
         p as u8,
         s[p],
-        s[q],
+        s[pdr],
         s[96],
         r.access == 1,
         details(r.phase, r.mode, d, r.va),
         r.va,
     );
-    s[q] = ruled.pdr;
+    s[pdr] = ruled.pdr;
     s[96] = ruled.sr0;
     ruled.answer
 }

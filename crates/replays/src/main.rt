@@ -1,5 +1,5 @@
 // Recordings replayed one after the other: every kind of record, every refusal, and the edges of 13.
-// Above each stand its lines, worked out by hand from document 01; the file `stdout` has them all.
+// Above each stand its lines, worked out by hand from document 01 and request E1; the file `stdout` has them all.
 
 use libc::STDOUT_FILENO;
 use transcript::Place;

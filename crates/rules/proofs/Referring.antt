@@ -1,5 +1,5 @@
 -- The answer to a reference by its tests, one after the other, and what a grant tells of them: case by case.
-use mathlib.Core.Path.{_≡_, refl}
+use mathlib.Core.Path.{_≡_, refl, sym, _∙_}
 use mathlib.Core.Bool.{Bool, true, false, cond, false≢true}
 use mathlib.Core.List.{List}
 use Prim.Native.Nat.{ℕ}
@@ -38,7 +38,7 @@ answer x y z a n f nonresident length readonly byte trap page =
     (X n)
 
 -- it was not refused; a page is there if relocation is on; and then the mode is legal, no flag was set, and byte and trap are the page's
-pub granted-by :
+granted-by :
     (x y z a : Bool) (n f : ℕ) (p q s : Bool) (byte b : ℕ) (trap t : Bool) (page : ℕ) (served : Served)
     → answer x y z a n f p q s byte trap page ≡ G b t served
     → (x ≡ true) × (served ≡ cond y (Page page) None) × (y ≡ true → (z ≡ false) × (a ≡ false) × (b ≡ byte) × (t ≡ trap))
@@ -56,6 +56,7 @@ module _ (l : List ℕ) (r : Reference) where
   abbrev write : Bool
   write = eqb (r .access) 1
 
+  -- the answer to a reference, by those tests
   pub answered : step l (Refer r) .0
       ≡ answer (eqb (refusalOf l (Refer r)) 0) (relocates (word l SR0)) (eqb (r .mode) 2) (aborts pdr write (r .va))
       (refusalOf l (Refer r)) (flatByte (r .va))
@@ -63,3 +64,14 @@ module _ (l : List ℕ) (r : Reference) where
       (byteOf (word l (pageFor l r)) (r .va)) (traps (word l SR0) pdr write) (pageFor l r)
   unfolding step accepted referred illegalMode examined ruled answer
   answered = simp cond-first
+
+  -- and what a grant tells of it
+  pub granted-tells : (byte : ℕ) (trap : Bool) (served : Served) → step l (Refer r) .0 ≡ G byte trap served
+      → (eqb (refusalOf l (Refer r)) 0 ≡ true)
+      × (served ≡ cond (relocates (word l SR0)) (Page (pageFor l r)) None)
+      × (relocates (word l SR0) ≡ true
+      → (eqb (r .mode) 2 ≡ false)
+      × (aborts pdr write (r .va) ≡ false)
+      × (byte ≡ byteOf (word l (pageFor l r)) (r .va))
+      × (trap ≡ traps (word l SR0) pdr write))
+  granted-tells byte trap served g = granted-by _ _ _ _ _ _ _ _ _ _ byte _ trap _ served (sym answered ∙ g)

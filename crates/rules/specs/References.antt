@@ -29,7 +29,7 @@ firstPage mode = cond (eqb mode 0) 0 (cond (eqb mode 1) 16 32)
 abbrev pub placeOf : ℕ → Bool → ℕ → ℕ
 placeOf mode d va = firstPage mode + 8 * bit d + pageOf va
 
--- the page that a reference uses
+-- rule 3: the page that a reference uses, by its place
 abbrev pub pageFor : List ℕ → Reference → ℕ
 pageFor l r = placeOf (r .mode) (usesD (word l SR3) (r .mode) (r .space)) (r .va)
 
@@ -95,6 +95,7 @@ examined l r =
 unfoldable pub illegalMode : List ℕ → Reference → Paper × List ℕ
 illegalMode l r = (A true false false, set l SR0 (sr0After (word l SR0) (abortFlags true false false) (details (r .phase) 2 false (r .va))))
 
+-- rule 1 grants by no page (request E1)
 unfoldable pub referred : List ℕ → Reference → Paper × List ℕ
 referred l r =
     cond (relocates (word l SR0))

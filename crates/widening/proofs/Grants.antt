@@ -1,4 +1,5 @@
--- With relocation on, a reference is granted exactly if it is not refused, its mode is legal and its page does not abort it; a wider map keeps that.
+-- With relocation on, a reference is granted exactly if it is not refused, its mode is legal and its page does not abort it; a wider map keeps that,
+-- with byte and page.
 use mathlib.Core.Path.{_≡_, refl, sym, _∙_}
 use mathlib.Core.Bool.{Bool, true, false, cond, _&&_, _||_, false≢true, true≢false}
 use mathlib.Core.List.{List}
@@ -20,7 +21,7 @@ use Rattle.rules.specs.declared.Served.the-variants.{Page}
 use Rattle.rules.specs.declared.Event.the-variants.{Refer}
 use Rattle.widening.specs.LastMap.{On, Granted, inPhase}
 use Rattle.rules.proofs.Bools.{page-small}
-use Rattle.rules.proofs.Referring.{answer, granted-by, answered}
+use Rattle.rules.proofs.Referring.{answer, answered, granted-tells}
 use Rattle.widening.proofs.Wider.{PageWider, Wider}
 
 -- what a grant at a byte by a page comes to
@@ -38,7 +39,7 @@ module _ (l : List ℕ) (r : Reference) where
 
   pub grant-of : On l → (byte : ℕ) (served : Served) → Granted l r byte served → Grant l r byte served
   grant-of o byte served g =
-      let t = granted-by _ _ _ _ _ _ _ _ _ _ byte _ (g .0) _ served (sym (answered l r) ∙ g .1) in
+      let t = granted-tells l r byte (g .0) served (g .1) in
       let u = t .2 (o .relocating) in
       record {
         accepts = sym (refusal-of (o .whole)) ∙ eqb-true (refusalOf l (Refer r)) 0 (t .0);

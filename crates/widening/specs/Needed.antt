@@ -31,19 +31,16 @@ pub record Line : Type 0 where
 abbrev pub line : ℕ → List ℕ → Event → ℕ → Served → Event → Paper → Line
 line n l r b p e a = record { premise = n; store = l; asks = r; byte = b; served = p; drops = e; again = a }
 
--- and a reference of User that is granted the same byte after the step, by a page or none
+-- a line, a reference of User that is granted the same byte after the step, and the page or none that serves it
 abbrev pub Both : Type 0
 Both = Line × Event × Served
-
-abbrev pub both : ℕ → List ℕ → Event → ℕ → Served → Event → Paper → Event → Served → Both
-both n l r b p e a q s = (line n l r b p e a, q, s)
 
 -- SR0, then PAR and PDR of page 0 of Kernel I and of User I; every other word 0
 abbrev pub holding : ℕ → ℕ → ℕ → ℕ → ℕ → List ℕ
 holding sr0 kernelPar kernelPdr userPar userPdr =
     mapping 0 kernelPar kernelPdr (mapping 32 userPar userPdr (set (replicate 100 0) SR0 sr0))
 
--- SR3 enables D for Kernel, whose D page 0 has a PAR of its own
+-- SR3 enables D for Kernel, whose D page 0 has this PAR
 abbrev pub withD : ℕ → List ℕ → List ℕ
 withD par l = mapping 8 par 0o077406 (set l SR3 0o000004)
 
@@ -57,31 +54,58 @@ user va = refer 3 0 1 va
 abbrev pub sharing : List Both
 sharing =
     -- relocation off at first, then on
-    both 0 (holding 0 0o100 0o077406 0 0o000406) (kernel 0o017) 0o000017 None (Write 0o777572 1) (G 0o010017 false (Page 0))
-    (user 0o017) (Page 32)
+    (
+      line 0 (holding 0 0o100 0o077406 0 0o000406) (kernel 0o017) 0o000017 None (Write 0o777572 1) (G 0o010017 false (Page 0)),
+      user 0o017,
+      Page 32,
+    )
     -- INIT
-    ∷ both 1 (holding 1 0o100 0o077406 0o1000 0o077406) (kernel 0o217) 0o010217 (Page 0) Init (G 0o000217 false None)
-    (user 0o010217) None
+    ∷ (
+      line 1 (holding 1 0o100 0o077406 0o1000 0o077406) (kernel 0o217) 0o010217 (Page 0) Init (G 0o000217 false None),
+      user 0o010217,
+      None,
+    )
     -- SR3 disables D for Kernel
-    ∷ both 2 (withD 0o1000 (holding 1 0o100 0o077406 0o1000 0o077406)) (refer 0 1 1 0o217) 0o100217 (Page 8) (Write 0o772516 0) (G 0o010217 false (Page 0))
-    (user 0o217) (Page 32)
+    ∷ (
+      line 2 (withD 0o1000 (holding 1 0o100 0o077406 0o1000 0o077406)) (refer 0 1 1 0o217) 0o100217 (Page 8) (Write 0o772516 0) (G 0o010217 false (Page 0)),
+      user 0o217,
+      Page 32,
+    )
     -- SR0 bit 0 is written 0
-    ∷ both 3 (holding 1 0o100 0o077406 0o1000 0o077406) (kernel 0o217) 0o010217 (Page 0) (Write 0o777572 0) (G 0o000217 false None)
-    (user 0o010217) None
+    ∷ (
+      line 3 (holding 1 0o100 0o077406 0o1000 0o077406) (kernel 0o217) 0o010217 (Page 0) (Write 0o777572 0) (G 0o000217 false None),
+      user 0o010217,
+      None,
+    )
     -- another PAR at a resident page
-    ∷ both 4 (holding 1 0o100 0o077406 0o100 0o077406) (kernel 0o217) 0o010217 (Page 0) (Write 0o772340 0o300) (G 0o030217 false (Page 0))
-    (user 0o217) (Page 32)
+    ∷ (
+      line 4 (holding 1 0o100 0o077406 0o100 0o077406) (kernel 0o217) 0o010217 (Page 0) (Write 0o772340 0o300) (G 0o030217 false (Page 0)),
+      user 0o217,
+      Page 32,
+    )
     -- ED 0 becomes 1
-    ∷ both 5 (holding 1 0o100 0o077406 0o100 0o017406) (kernel 0o217) 0o010217 (Page 0) (Write 0o772300 0o077416) (A false true false)
-    (user 0o217) (Page 32)
+    ∷ (
+      line 5 (holding 1 0o100 0o077406 0o100 0o017406) (kernel 0o217) 0o010217 (Page 0) (Write 0o772300 0o077416) (A false true false),
+      user 0o217,
+      Page 32,
+    )
     -- ED 0, a smaller length; ED 1, a larger one
-    ∷ both 6 (holding 1 0o100 0o077406 0o102 0o017406) (kernel 0o217) 0o010217 (Page 0) (Write 0o772300 0o000406) (A false true false)
-    (user 0o017) (Page 32)
-    ∷ both 6 (holding 1 0o100 0o000016 0o100 0o001406) (kernel 0o217) 0o010217 (Page 0) (Write 0o772300 0o002016) (A false true false)
-    (user 0o217) (Page 32)
+    ∷ (
+      line 6 (holding 1 0o100 0o077406 0o102 0o017406) (kernel 0o217) 0o010217 (Page 0) (Write 0o772300 0o000406) (A false true false),
+      user 0o017,
+      Page 32,
+    )
+    ∷ (
+      line 6 (holding 1 0o100 0o000016 0o100 0o001406) (kernel 0o217) 0o010217 (Page 0) (Write 0o772300 0o002016) (A false true false),
+      user 0o217,
+      Page 32,
+    )
     -- key 6 becomes 0
-    ∷ both 7 (holding 1 0o100 0o077406 0o100 0o077406) (kernel 0o217) 0o010217 (Page 0) (Write 0o772300 0o077400) (A true false false)
-    (user 0o217) (Page 32)
+    ∷ (
+      line 7 (holding 1 0o100 0o077406 0o100 0o077406) (kernel 0o217) 0o010217 (Page 0) (Write 0o772300 0o077400) (A true false false),
+      user 0o217,
+      Page 32,
+    )
     ∷ []
 
 -- two more, of the first half alone
@@ -102,7 +126,7 @@ abbrev pub found : Line → List Bool × Paper × Paper
 found t =
     (relocates (word (t .store) SR0) ∷ premises (t .store) (t .drops), step (t .store) (t .asks) .0, step (last t) (t .asks) .0)
 
--- every premise but one; a grant at the byte by the page; another answer
+-- every premise but one; a grant at the byte by the page; the answer that the line gives
 abbrev pub expected : Line → List Bool × Paper × Paper
 expected t = (set (replicate 8 true) (t .premise) false, G (t .byte) false (t .served), t .again)
 
