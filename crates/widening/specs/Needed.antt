@@ -44,68 +44,42 @@ holding sr0 kernelPar kernelPdr userPar userPdr =
 abbrev pub withD : ℕ → List ℕ → List ℕ
 withD par l = mapping 8 par 0o077406 (set l SR3 0o000004)
 
--- writes by Kernel and by User, space 0
+-- a write by Kernel, space 0
 abbrev pub kernel : ℕ → Event
 kernel va = refer 0 0 1 va
 
-abbrev pub user : ℕ → Event
-user va = refer 3 0 1 va
+-- a line with such a reference: a write by User, space 0
+abbrev pub andUser : ℕ → Served → Line → Both
+andUser va served t = (t, refer 3 0 1 va, served)
 
 abbrev pub sharing : List Both
 sharing =
     -- relocation off at first, then on
-    (
-      line 0 (holding 0 0o100 0o077406 0 0o000406) (kernel 0o017) 0o000017 None (Write 0o777572 1) (G 0o010017 false (Page 0)),
-      user 0o017,
-      Page 32,
-    )
+    andUser 0o017 (Page 32)
+    (line 0 (holding 0 0o100 0o077406 0 0o000406) (kernel 0o017) 0o000017 None (Write 0o777572 1) (G 0o010017 false (Page 0)))
     -- INIT
-    ∷ (
-      line 1 (holding 1 0o100 0o077406 0o1000 0o077406) (kernel 0o217) 0o010217 (Page 0) Init (G 0o000217 false None),
-      user 0o010217,
-      None,
-    )
+    ∷ andUser 0o010217 None
+    (line 1 (holding 1 0o100 0o077406 0o1000 0o077406) (kernel 0o217) 0o010217 (Page 0) Init (G 0o000217 false None))
     -- SR3 disables D for Kernel
-    ∷ (
-      line 2 (withD 0o1000 (holding 1 0o100 0o077406 0o1000 0o077406)) (refer 0 1 1 0o217) 0o100217 (Page 8) (Write 0o772516 0) (G 0o010217 false (Page 0)),
-      user 0o217,
-      Page 32,
-    )
+    ∷ andUser 0o217 (Page 32)
+    (line 2 (withD 0o1000 (holding 1 0o100 0o077406 0o1000 0o077406)) (refer 0 1 1 0o217) 0o100217 (Page 8) (Write 0o772516 0) (G 0o010217 false (Page 0)))
     -- SR0 bit 0 is written 0
-    ∷ (
-      line 3 (holding 1 0o100 0o077406 0o1000 0o077406) (kernel 0o217) 0o010217 (Page 0) (Write 0o777572 0) (G 0o000217 false None),
-      user 0o010217,
-      None,
-    )
+    ∷ andUser 0o010217 None
+    (line 3 (holding 1 0o100 0o077406 0o1000 0o077406) (kernel 0o217) 0o010217 (Page 0) (Write 0o777572 0) (G 0o000217 false None))
     -- another PAR at a resident page
-    ∷ (
-      line 4 (holding 1 0o100 0o077406 0o100 0o077406) (kernel 0o217) 0o010217 (Page 0) (Write 0o772340 0o300) (G 0o030217 false (Page 0)),
-      user 0o217,
-      Page 32,
-    )
+    ∷ andUser 0o217 (Page 32)
+    (line 4 (holding 1 0o100 0o077406 0o100 0o077406) (kernel 0o217) 0o010217 (Page 0) (Write 0o772340 0o300) (G 0o030217 false (Page 0)))
     -- ED 0 becomes 1
-    ∷ (
-      line 5 (holding 1 0o100 0o077406 0o100 0o017406) (kernel 0o217) 0o010217 (Page 0) (Write 0o772300 0o077416) (A false true false),
-      user 0o217,
-      Page 32,
-    )
+    ∷ andUser 0o217 (Page 32)
+    (line 5 (holding 1 0o100 0o077406 0o100 0o017406) (kernel 0o217) 0o010217 (Page 0) (Write 0o772300 0o077416) (A false true false))
     -- ED 0, a smaller length; ED 1, a larger one
-    ∷ (
-      line 6 (holding 1 0o100 0o077406 0o102 0o017406) (kernel 0o217) 0o010217 (Page 0) (Write 0o772300 0o000406) (A false true false),
-      user 0o017,
-      Page 32,
-    )
-    ∷ (
-      line 6 (holding 1 0o100 0o000016 0o100 0o001406) (kernel 0o217) 0o010217 (Page 0) (Write 0o772300 0o002016) (A false true false),
-      user 0o217,
-      Page 32,
-    )
+    ∷ andUser 0o017 (Page 32)
+    (line 6 (holding 1 0o100 0o077406 0o102 0o017406) (kernel 0o217) 0o010217 (Page 0) (Write 0o772300 0o000406) (A false true false))
+    ∷ andUser 0o217 (Page 32)
+    (line 6 (holding 1 0o100 0o000016 0o100 0o001406) (kernel 0o217) 0o010217 (Page 0) (Write 0o772300 0o002016) (A false true false))
     -- key 6 becomes 0
-    ∷ (
-      line 7 (holding 1 0o100 0o077406 0o100 0o077406) (kernel 0o217) 0o010217 (Page 0) (Write 0o772300 0o077400) (A true false false),
-      user 0o217,
-      Page 32,
-    )
+    ∷ andUser 0o217 (Page 32)
+    (line 7 (holding 1 0o100 0o077406 0o100 0o077406) (kernel 0o217) 0o010217 (Page 0) (Write 0o772300 0o077400) (A true false false))
     ∷ []
 
 -- two more, of the first half alone
