@@ -20,7 +20,7 @@ use Rattle.account.specs.declared.Ending.the-variants.{All, Stopped}
 use Rattle.account.specs.declared.Report.{Report}
 use Rattle.account.specs.declared.Audited.{Audited}
 use Rattle.account.specs.declared.Audited.the-variants.{Done, Refused}
-use Rattle.wording.specs.Chars.{chars}
+use Rattle.lines.specs.Chars.{chars}
 
 abbrev pub Text : Type 0
 Text = List ℕ
