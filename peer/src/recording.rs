@@ -1,7 +1,8 @@
-//! Recordings: the records of one, and its replay.
+//! A whole recording and its replay.
 
-use crate::events::{apply, Answer, Event};
+use crate::events::{apply, Answer};
 use crate::lines::push_line;
+use crate::reading::first_record;
 use crate::refusals;
 use crate::registers::Store;
 
@@ -37,47 +38,4 @@ pub fn refusal_text(number: u8) -> Vec<u8> {
     let mut text = Vec::new();
     push_line(&mut text, Answer::Refused(number));
     text
-}
-
-/// The first record of a recording not yet at its end, and what follows it; or
-/// refusal 11 or 12.
-fn first_record(recording: &[u8]) -> Result<(Event, &[u8]), u8> {
-    let (event, rest) = match recording {
-        [1, mode, space, access, phase, v0, v1, rest @ ..] => {
-            let event = Event::Reference {
-                mode: u32::from(*mode),
-                space: u32::from(*space),
-                access: u32::from(*access),
-                phase: u32::from(*phase),
-                va: u16::from_le_bytes([*v0, *v1]),
-            };
-            (event, rest)
-        }
-        [2, a0, a1, a2, rest @ ..] => {
-            let address = u32::from_le_bytes([*a0, *a1, *a2, 0]);
-            (Event::Read { address }, rest)
-        }
-        [3, a0, a1, a2, v0, v1, rest @ ..] => {
-            let address = u32::from_le_bytes([*a0, *a1, *a2, 0]);
-            let value = u16::from_le_bytes([*v0, *v1]);
-            (Event::Write { address, value }, rest)
-        }
-        [4, v0, v1, rest @ ..] => {
-            let va = u16::from_le_bytes([*v0, *v1]);
-            (Event::Instruction { va }, rest)
-        }
-        [5, v0, v1, rest @ ..] => {
-            let vector = u16::from_le_bytes([*v0, *v1]);
-            (Event::Interrupt { vector }, rest)
-        }
-        [6, register, amount, rest @ ..] => {
-            let register = u32::from(*register);
-            let amount = i32::from(*amount as i8);
-            (Event::Change { register, amount }, rest)
-        }
-        [7, rest @ ..] => (Event::Init, rest),
-        [1..=6, ..] => return Err(refusals::RECORD_CUT_SHORT),
-        _ => return Err(refusals::RECORD_KIND),
-    };
-    Ok((event, rest))
 }

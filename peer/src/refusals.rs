@@ -1,4 +1,5 @@
-//! The refusal numbers of 01's table "When the beam won't balance".
+//! The refusal numbers of 01's table "When the beam won't balance", and request
+//! E2's own.
 
 /// The store isn't 100 words.
 pub const STORE_LENGTH: u8 = 1;
@@ -26,3 +27,5 @@ pub const RECORD_KIND: u8 = 11;
 pub const RECORD_CUT_SHORT: u8 = 12;
 /// Recording over 32,768 bytes.
 pub const RECORDING_TOO_LONG: u8 = 13;
+/// Request E2: the record doesn't fit in the lent buffer.
+pub const NO_ROOM: u8 = 14;

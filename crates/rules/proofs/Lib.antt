@@ -1,7 +1,9 @@
 pub mod Values
 pub mod Papers
+pub mod Places
 pub mod Outcomes
 pub mod Bools
+pub mod Complement
 pub mod Referring
 pub mod Masks
 pub mod Length

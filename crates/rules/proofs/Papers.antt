@@ -21,12 +21,13 @@ use Rattle.rules.specs.declared.Refusal.the-variants.{
   Kind,
   Cut,
   Long,
+  Room,
 }
 
 unfoldable pub numbered : ℕ → Refusal
 numbered n =
     getD
-    (Store ∷ Store ∷ Mode ∷ Space ∷ Access ∷ Phase ∷ High ∷ Odd ∷ NoRegister ∷ BadChange ∷ Full ∷ Kind ∷ Cut ∷ Long ∷ [])
+    (Store ∷ Store ∷ Mode ∷ Space ∷ Access ∷ Phase ∷ High ∷ Odd ∷ NoRegister ∷ BadChange ∷ Full ∷ Kind ∷ Cut ∷ Long ∷ Room ∷ [])
     n Store
 
 same-refusal : (r : Refusal) → numbered (number r) ≡ r
@@ -44,6 +45,7 @@ same-refusal Full = refl
 same-refusal Kind = refl
 same-refusal Cut = refl
 same-refusal Long = refl
+same-refusal Room = refl
 
 back : Paper → Answer
 back (G byte trap served) = Granted byte trap served

@@ -16,10 +16,13 @@ abbrev pub goodAmount : ℤ → Bool
 goodAmount (pos n) = not (eqb n 0) && ltb n 16
 goodAmount (negsuc n) = ltb n 16
 
--- its five bits of two's complement
+-- two's complement, in bits that hold the numbers up to most
+abbrev pub complement : ℕ → ℤ → ℕ
+complement most (pos n) = n
+complement most (negsuc n) = most - n
+
 abbrev pub fiveBits : ℤ → ℕ
-fiveBits (pos n) = n
-fiveBits (negsuc n) = 31 - n
+fiveBits amount = complement 31 amount
 
 -- the byte: the amount in five bits, then three bits of register
 abbrev pub changeByte : ℕ → ℤ → ℕ

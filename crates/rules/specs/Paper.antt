@@ -6,7 +6,7 @@ use Rattle.rules.specs.declared.Served.{Served}
 use Rattle.rules.specs.declared.Answer.{Answer}
 use Rattle.rules.specs.declared.Answer.the-variants.{Granted, Aborted, Word, Done, Refused}
 use Rattle.rules.specs.declared.Refusal.{Refusal}
-use Rattle.rules.specs.declared.Refusal.the-variants.{Store, Mode, Space, Access, Phase, High, Odd, NoRegister, BadChange, Full, Kind, Cut, Long}
+use Rattle.rules.specs.declared.Refusal.the-variants.{Store, Mode, Space, Access, Phase, High, Odd, NoRegister, BadChange, Full, Kind, Cut, Long, Room}
 
 -- G byte trap served; A non-resident length read-only; R word; D done; X number
 pub data Paper : Type 0 where
@@ -16,7 +16,7 @@ pub data Paper : Type 0 where
   D : Paper
   X : ℕ → Paper
 
--- 01, "When the beam won't balance"
+-- 01, "When the beam won't balance", and 14 of request E2
 abbrev pub number : Refusal → ℕ
 number Store = 1
 number Mode = 2
@@ -31,6 +31,7 @@ number Full = 10
 number Kind = 11
 number Cut = 12
 number Long = 13
+number Room = 14
 
 abbrev pub paper : Answer → Paper
 paper (Granted byte trap served) = G byte trap served

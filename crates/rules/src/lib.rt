@@ -23,7 +23,7 @@ pub enum Event {
     Init,
 }
 
-// What is refused, in the order of 01's table: 1 to 13.
+// What is refused, in the order of 01's table, 1 to 13; then 14 of request E2.
 pub enum Refusal {
     Store,
     Mode,
@@ -38,9 +38,10 @@ pub enum Refusal {
     Kind,
     Cut,
     Long,
+    Room,
 }
 
-// A refusal's number in 01.
+// A refusal's number.
 pub fn number(r: Refusal) -> u32
     ensures { λ n. ⌜ n ≡ numberOf r ⌝ }
 {
@@ -58,6 +59,7 @@ pub fn number(r: Refusal) -> u32
         Refusal::Kind => 11,
         Refusal::Cut => 12,
         Refusal::Long => 13,
+        Refusal::Room => 14,
     }
 }
 

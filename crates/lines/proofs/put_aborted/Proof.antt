@@ -3,7 +3,7 @@ use Rattle.lines.specs.Lines.{lineOf}
 use lib.ListN.{length-set}
 use native.Mathlib.Omega.{arith}
 use borrow.Author.Needs.{needs}
-use Rattle.lines.proofs.Places.{place}
+use Rattle.rules.proofs.Places.{place}
 use Rattle.lines.proofs.put_aborted.Statement.{statement}
 use Rattle.lines.proofs.put_aborted.Tie as tie
 

@@ -2,7 +2,7 @@
 use lib.ListN.{length-set}
 use native.Mathlib.Omega.{arith}
 use borrow.Author.Needs.{needs}
-use Rattle.lines.proofs.Places.{place}
+use Rattle.rules.proofs.Places.{place}
 use Rattle.lines.proofs.put_octal.Statement.{statement}
 use Rattle.lines.proofs.put_octal.Tie as tie
 

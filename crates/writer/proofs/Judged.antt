@@ -1,0 +1,75 @@
+-- What an answer tells of the refusal's number, and number 0 of the event: its record fits, and so does its amount.
+use mathlib.Core.Path.{_≡_, refl, sym, ap, _∙_}
+use mathlib.Core.Bool.{Bool, true, false, cond, not, _||_, true≢false, false≢true}
+use Prim.Native.Nat.{ℕ, suc, _+_, _≤_, _<_}
+use native.Mathlib.Omega.{arith}
+use lib.ListN.{length}
+use lib.Dec.{ltb, eqb}
+use lib.IntN.{ℤ}
+use borrow.Author.Tests.{ltb-false, eqb-true, eqb-false}
+use Rattle.rules.specs.declared.Event.{Event}
+use Rattle.rules.specs.declared.Event.the-variants.{Refer, Read, Write, Instruction, Interrupt, Change, Init}
+use Rattle.writer.specs.Bytes.{recordOf}
+use Rattle.writer.specs.Writing.{Said, Used, X, inByte, unwritten, answer}
+
+-- a condition whose number is not given, and those after it
+passed : (x : Bool) (n rest : ℕ) → cond x (suc n) rest ≡ 0 → (x ≡ false) × (rest ≡ 0)
+passed true n rest h = absurd (omega arith)
+passed false n rest h = (refl, h)
+
+roomy : (room used bytes : ℕ) → _≡_ {A = ℕ} (cond (ltb room (used + bytes)) 14 0) 0 → used + bytes ≤ room
+roomy room used bytes h = ltb-false room (used + bytes) (passed (ltb room (used + bytes)) 13 0 h .0)
+
+pub fitting : (room used : ℕ) (e : Event) → unwritten room used e ≡ 0 → used + length (recordOf e) ≤ room
+unfolding unwritten recordOf
+fitting room used (Refer r) h =
+    let last : ℕ = cond (ltb room (used + 7)) 14 0 in
+    let phase : ℕ = cond (ltb 255 (r .phase)) 5 last in
+    let access : ℕ = cond (ltb 255 (r .access)) 4 phase in
+    let space : ℕ = cond (ltb 255 (r .space)) 3 access in
+    let h-space = passed (ltb 255 (r .mode)) 1 space h .1 in
+    let h-access = passed (ltb 255 (r .space)) 2 access h-space .1 in
+    let h-phase = passed (ltb 255 (r .access)) 3 phase h-access .1 in
+    roomy room used 7 (passed (ltb 255 (r .phase)) 4 last h-phase .1)
+fitting room used (Read address) h = roomy room used 4 (passed (ltb 0o77777777 address) 5 (cond (ltb room (used + 4)) 14 0) h .1)
+fitting room used (Write address value) h = roomy room used 6 (passed (ltb 0o77777777 address) 5 (cond (ltb room (used + 6)) 14 0) h .1)
+fitting room used (Instruction va) h = roomy room used 3 h
+fitting room used (Interrupt vector) h = roomy room used 3 h
+fitting room used (Change register amount) h =
+    roomy room used 3 (passed (ltb 255 register || not (inByte amount)) 8 (cond (ltb room (used + 3)) 14 0) h .1)
+fitting room used Init h = roomy room used 1 h
+
+neither : (x y : Bool) → (x || not y) ≡ false → y ≡ true
+neither true y h = absurd (true≢false h)
+neither false true h = refl
+neither false false h = absurd (true≢false h)
+
+pub amount-fits : (room used register : ℕ) (amount : ℤ) → unwritten room used (Change register amount) ≡ 0 → inByte amount ≡ true
+unfolding unwritten recordOf
+amount-fits room used register amount h =
+    neither (ltb 255 register) (inByte amount) (passed (ltb 255 register || not (inByte amount)) 8 (cond (ltb room (used + 3)) 14 0) h .0)
+
+-- an answer is a number of bytes used, or a refusal
+is-used : Said → Bool
+is-used (Used used) = true
+is-used (X n) = false
+
+count : Said → ℕ
+count (Used used) = used
+count (X n) = n
+
+pub used-tells : (n next used : ℕ) → Used used ≡ answer n next → (n ≡ 0) × (used ≡ next)
+unfolding is-used count
+used-tells n next used e = by (eqb n 0) refl e
+  where
+    by : (x : Bool) → eqb n 0 ≡ x → Used used ≡ cond x (Used next) (X n) → (n ≡ 0) × (used ≡ next)
+    by true h e = (eqb-true n 0 h, ap count e)
+    by false h e = absurd (true≢false (ap is-used e))
+
+pub refused-tells : (n next k : ℕ) → X k ≡ answer n next → eqb n 0 ≡ false
+unfolding is-used
+refused-tells n next k e = by (eqb n 0) refl e
+  where
+    by : (x : Bool) → eqb n 0 ≡ x → X k ≡ cond x (Used next) (X n) → eqb n 0 ≡ false
+    by true h e = absurd (false≢true (ap is-used e))
+    by false h e = h

@@ -1,0 +1,71 @@
+//! Reading: the record that stands at a place of a recording.
+
+use crate::events::Event;
+use crate::refusals;
+
+/// What stands at a place of a recording.
+#[derive(Clone, Copy, Debug, PartialEq, Eq)]
+pub enum Found {
+    /// An event, and the place after its record.
+    Event(Event, usize),
+    /// Refusal 11 or 12.
+    Refused(u8),
+    /// The end of the recording.
+    End,
+}
+
+/// Request E2: reads the record at a place; at or beyond the end there is none.
+/// The recording may have any length: refusal 13 belongs to a replay.
+pub fn read_record(recording: &[u8], at: usize) -> Found {
+    match recording.get(at..) {
+        None | Some([]) => Found::End,
+        Some(rest) => match first_record(rest) {
+            Ok((event, after)) => Found::Event(event, recording.len() - after.len()),
+            Err(number) => Found::Refused(number),
+        },
+    }
+}
+
+/// The first record of a recording not yet at its end, and what follows it; or
+/// refusal 11 or 12.
+#[inline(always)]
+pub fn first_record(recording: &[u8]) -> Result<(Event, &[u8]), u8> {
+    let (event, rest) = match recording {
+        [1, mode, space, access, phase, v0, v1, rest @ ..] => {
+            let event = Event::Reference {
+                mode: u32::from(*mode),
+                space: u32::from(*space),
+                access: u32::from(*access),
+                phase: u32::from(*phase),
+                va: u16::from_le_bytes([*v0, *v1]),
+            };
+            (event, rest)
+        }
+        [2, a0, a1, a2, rest @ ..] => {
+            let address = u32::from_le_bytes([*a0, *a1, *a2, 0]);
+            (Event::Read { address }, rest)
+        }
+        [3, a0, a1, a2, v0, v1, rest @ ..] => {
+            let address = u32::from_le_bytes([*a0, *a1, *a2, 0]);
+            let value = u16::from_le_bytes([*v0, *v1]);
+            (Event::Write { address, value }, rest)
+        }
+        [4, v0, v1, rest @ ..] => {
+            let va = u16::from_le_bytes([*v0, *v1]);
+            (Event::Instruction { va }, rest)
+        }
+        [5, v0, v1, rest @ ..] => {
+            let vector = u16::from_le_bytes([*v0, *v1]);
+            (Event::Interrupt { vector }, rest)
+        }
+        [6, register, amount, rest @ ..] => {
+            let register = u32::from(*register);
+            let amount = i32::from(*amount as i8);
+            (Event::Change { register, amount }, rest)
+        }
+        [7, rest @ ..] => (Event::Init, rest),
+        [1..=6, ..] => return Err(refusals::RECORD_CUT_SHORT),
+        _ => return Err(refusals::RECORD_KIND),
+    };
+    Ok((event, rest))
+}
