@@ -52,14 +52,14 @@ unfoldable pub referenceLine : Text → Line
 referenceLine t =
     field Mode t
     (λ mode t₁.
-       field Space t₁
-       (λ space t₂.
-          field Access t₂
-          (λ access t₃.
-             field Phase t₃
-             (λ phase t₄.
-                field Va t₄
-                (λ va t₅. ending (AnEvent (Refer (record { mode = mode; space = space; access = access; phase = phase; va = va; }))) t₅)))))
+    field Space t₁
+    (λ space t₂.
+    field Access t₂
+    (λ access t₃.
+    field Phase t₃
+    (λ phase t₄.
+    field Va t₄
+    (λ va t₅. ending (AnEvent (Refer (record { mode = mode; space = space; access = access; phase = phase; va = va }))) t₅)))))
 
 -- a name with one field
 abbrev pub single : Field → (ℕ → Line) → Text → Line

@@ -30,7 +30,7 @@ numbered n =
     (Store ∷ Store ∷ Mode ∷ Space ∷ Access ∷ Phase ∷ High ∷ Odd ∷ NoRegister ∷ BadChange ∷ Full ∷ Kind ∷ Cut ∷ Long ∷ Room ∷ [])
     n Store
 
-same-refusal : (r : Refusal) → numbered (number r) ≡ r
+pub same-refusal : (r : Refusal) → numbered (number r) ≡ r
 unfolding numbered
 same-refusal Store = refl
 same-refusal Mode = refl

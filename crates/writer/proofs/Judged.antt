@@ -13,7 +13,7 @@ use Rattle.writer.specs.Bytes.{recordOf}
 use Rattle.writer.specs.Writing.{Said, Used, X, inByte, unwritten, answer}
 
 -- a condition whose number is not given, and those after it
-passed : (x : Bool) (n rest : ℕ) → cond x (suc n) rest ≡ 0 → (x ≡ false) × (rest ≡ 0)
+pub passed : (x : Bool) (n rest : ℕ) → cond x (suc n) rest ≡ 0 → (x ≡ false) × (rest ≡ 0)
 passed true n rest h = absurd (omega arith)
 passed false n rest h = (refl, h)
 
@@ -39,7 +39,7 @@ fitting room used (Change register amount) h =
     roomy room used 3 (passed (ltb 255 register || not (inByte amount)) 8 (cond (ltb room (used + 3)) 14 0) h .1)
 fitting room used Init h = roomy room used 1 h
 
-neither : (x y : Bool) → (x || not y) ≡ false → y ≡ true
+pub neither : (x y : Bool) → (x || not y) ≡ false → y ≡ true
 neither true y h = absurd (true≢false h)
 neither false true h = refl
 neither false false h = absurd (true≢false h)

@@ -1,9 +1,9 @@
 // Whether an event's record is written: its fields against their bytes, by 01's numbers, and then 14, in that order.
 
+use crate::Wrote;
 use rules::Event;
 use rules::Reference;
 use rules::Refusal;
-use crate::Wrote;
 ghost use mathlib.Core.Path.{_≡_};
 ghost use mathlib.Core.List.{_++_};
 ghost use Prim.Native.Nat.{_+_};
