@@ -4,6 +4,8 @@ use rules::Event;
 ghost use mathlib.Core.Path.{_≡_};
 ghost use Rattle.notation.specs.Lines.{lineOf};
 
+mod words;
+
 // A field with a number.
 pub enum Field {
     Mode,
