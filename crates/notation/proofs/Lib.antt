@@ -1,3 +1,5 @@
 pub mod Examples
 pub mod Parts
 pub mod Runs
+pub mod Spelling
+pub mod Octals

@@ -4,6 +4,7 @@ use rules::Event;
 ghost use mathlib.Core.Path.{_≡_};
 ghost use Rattle.notation.specs.Lines.{lineOf};
 
+mod fields;
 mod words;
 
 // A field with a number.
