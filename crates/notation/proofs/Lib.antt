@@ -3,3 +3,4 @@ pub mod Parts
 pub mod Runs
 pub mod Spelling
 pub mod Octals
+pub mod Amounts

@@ -8,9 +8,9 @@ use native.Mathlib.Omega.{arith}
 use lib.ListN.{length, drop, getD, drop-of-length-le}
 use lib.Seq.{drop-cons}
 use lib.Dec.{leb}
-use borrow.Author.Tests.{le-leb, lt-leb}
+use borrow.Author.Tests.{le-leb, lt-leb, leb-true}
 use Rattle.lines.specs.Lines.{Text}
-use Rattle.notation.specs.Fields.{octalDigit, octalFrom, upTo, octalUpTo}
+use Rattle.notation.specs.Fields.{octalDigit, octalFrom, octalOf, upTo, octalUpTo}
 use Rattle.notation.specs.declared.Number.{Number}
 use Rattle.notation.specs.declared.Number.the-variants.{Is, None}
 
@@ -59,3 +59,15 @@ module _ (most : ℕ) where
     pub complete : length w ≤ i → n ≤ most → Is n ≡ octalUpTo most w
     unfolding octalFrom
     complete h m = rw (left, drop-of-length-le w h, le-leb n most m)
+
+limit : (most n : ℕ) (x : Number) → upTo most x ≡ Is n → n ≤ most
+limit most n None e = let z : _≡_ {A = ℕ} 0 1 = cc in absurd (omega arith)
+limit most n (Is m) e = of (leb m most) refl e
+  where
+    of : (b : Bool) → leb m most ≡ b → cond b (Is m) None ≡ Is n → n ≤ most
+    of true h e = let k : m ≡ n = cc in omega (arith, leb-true m most h)
+    of false h e = let z : _≡_ {A = ℕ} 0 1 = cc in absurd (omega arith)
+
+pub within : (most n : ℕ) (w : Text) → octalUpTo most w ≡ Is n → n ≤ most
+unfolding octalUpTo
+within most n w e = limit most n (octalOf w) e

@@ -1,82 +1,44 @@
+-- The sign picks the limit and the number's sign.
 use borrow.Author.Needs.{needs}
+use borrow.Author.Tests.{eq-eqb, ne-eqb}
+use Rattle.notation.proofs.Parts.{from-on}
+use Rattle.notation.proofs.Amounts.{no-amount, by-sign}
 use Rattle.notation.proofs.fields.amount.Statement.{statement}
 use Rattle.notation.proofs.fields.amount.Tie as tie
-use Rattle.notation.proofs.fields.amount.Reads as reads
-use Rattle.notation.proofs.fields.amount.Lts as lts
-use Rattle.notation.proofs.fields.less.Reads as less-reads
-use Rattle.notation.proofs.fields.plus.Reads as plus-reads
 
--- src/fields.rt:138:9
-returns : tie.Need-returns
-returns c = ?
-
--- src/fields.rt:140:16
-shared-slice-read-sign : tie.Need-shared-slice-read-sign
-shared-slice-read-sign c = search needs
-
--- src/fields.rt:142:21
-sub-less : tie.Need-sub-less
-sub-less c = search needs
-
--- src/fields.rt:142:21
-part-less-start : tie.Need-part-less-start
-part-less-start c = search needs
-
--- src/fields.rt:142:21
-part-less-end : tie.Need-part-less-end
-part-less-end c = search needs
-
--- src/fields.rt:142:9
-less-requires : tie.Need-less-requires
-less-requires c κs = search needs
-
--- src/fields.rt:142:9
 returns-2 : tie.Need-returns-2
-returns-2 c = ?
+returns-2 c =
+    let at-if2 = c .before .before in
+    rw (by-sign _ (at-if2 .before .before .if1 .left), eq-eqb _ _ (at-if2 .if2 .taken), ← from-on) (c .less .ensures)
 
--- src/fields.rt:145:21
-sub-plus : tie.Need-sub-plus
-sub-plus c = search needs
-
--- src/fields.rt:145:21
-part-plus-start : tie.Need-part-plus-start
-part-plus-start c = search needs
-
--- src/fields.rt:145:21
-part-plus-end : tie.Need-part-plus-end
-part-plus-end c = search needs
-
--- src/fields.rt:145:9
-plus-requires : tie.Need-plus-requires
-plus-requires c κs = search needs
-
--- src/fields.rt:145:9
 returns-3 : tie.Need-returns-3
-returns-3 c = ?
+returns-3 c =
+    let at-if3 = c .before .before in
+    let at-if2 = at-if3 .before in
+    rw (by-sign _ (at-if2 .before .before .if1 .left), ne-eqb _ _ (at-if2 .if2 .left), eq-eqb _ _ (at-if3 .if3 .taken), ← from-on)
+    (c .plus .ensures)
 
--- src/fields.rt:147:5
-plus-requires-2 : tie.Need-plus-requires-2
-plus-requires-2 c κs = search needs
-
--- src/fields.rt:134:1
 returns-4 : tie.Need-returns-4
-returns-4 c = ?
+returns-4 c =
+    let at-if3 = c .before in
+    let at-if2 = at-if3 .before in
+    rw (by-sign _ (at-if2 .before .before .if1 .left), ne-eqb _ _ (at-if2 .if2 .left), ne-eqb _ _ (at-if3 .if3 .left)) (c .plus2 .ensures)
 
 pub amount-spec : {M : Type 1} → statement M
 amount-spec =
     tie.close
     (tie.spec
-    returns
-    shared-slice-read-sign
-    sub-less
-    part-less-start
-    part-less-end
-    less-requires
+    (λ c. no-amount _ (c .if1 .taken))
+    (λ c. search needs)
+    (λ c. search needs)
+    (λ c. search needs)
+    (λ c. search needs)
+    (λ c κs. search needs)
     returns-2
-    sub-plus
-    part-plus-start
-    part-plus-end
-    plus-requires
+    (λ c. search needs)
+    (λ c. search needs)
+    (λ c. search needs)
+    (λ c κs. search needs)
     returns-3
-    plus-requires-2
+    (λ c κs. search needs)
     returns-4)

@@ -1,38 +1,36 @@
+-- The number less than none is the amount, and loses nothing as a signed one.
+use mathlib.Core.Path.{sym, _∙_, ap}
+use native.Mathlib.Omega.{arith}
+use mir.Syntax.{w32}
+use mir.ValLaws.{toZ-ofZ}
 use borrow.Author.Needs.{needs}
+use Rattle.notation.specs.declared.Amount.the-variants.{By}
+use Rattle.notation.proofs.Octals.{within}
+use Rattle.notation.proofs.Amounts.{fits-plus, plain, negated, fits-minus}
 use Rattle.notation.proofs.fields.less.Statement.{statement}
 use Rattle.notation.proofs.fields.less.Tie as tie
-use Rattle.notation.proofs.fields.less.Reads as reads
-use Rattle.notation.proofs.fields.less.Lts as lts
-use Rattle.notation.proofs.fields.octal.Reads as octal-reads
 
--- src/fields.rt:128:11
-octal-requires : tie.Need-octal-requires
-octal-requires c κs = search needs
-
--- src/fields.rt:129:20
-enum-known-n : tie.Need-enum-known-n
-enum-known-n c = search needs
-
--- src/fields.rt:129:39
 cast-t5 : tie.Need-cast-t5
-cast-t5 c = ?
+cast-t5 c =
+    let is = sym (c .before .before .before .octal .ensures) ∙ c .before .n .given .1 in
+    fits-plus _ (within 0o200 _ _ is)
 
--- src/fields.rt:129:37
 sub-t6 : tie.Need-sub-t6
-sub-t6 c = ?
+sub-t6 c =
+    let is = sym (c .before .before .before .octal .ensures) ∙ c .before .n .given .1 in
+    let small = within 0o200 _ _ is in
+    rw (plain _ small, negated) (fits-minus _ small)
 
--- src/fields.rt:130:25
-enum-told : tie.Need-enum-told
-enum-told c = search needs
-
--- src/fields.rt:125:1
 returns : tie.Need-returns
-returns c = ?
+returns c =
+    let is = sym (c .before .before .before .octal .ensures) ∙ c .before .n .given .1 in
+    let small = within 0o200 _ _ is in
+    rw (is, plain _ small, negated) (ap By (toZ-ofZ w32 _ (fits-minus _ small)))
 
--- src/fields.rt:125:1
 returns-2 : tie.Need-returns-2
-returns-2 c = ?
+returns-2 c = rw (sym (c .before .before .octal .ensures) ∙ c .enum-told .given .1)
 
 pub less-spec : {M : Type 1} → statement M
 less-spec =
-    tie.close (tie.spec octal-requires enum-known-n cast-t5 sub-t6 enum-told returns returns-2)
+    tie.close
+    (tie.spec (λ c κs. search needs) (λ c. search needs) cast-t5 sub-t6 (λ c. search needs) returns returns-2)
