@@ -38,7 +38,7 @@ no-amount (c ∷ t) e = absurd (omega arith)
 pub by-sign : (w : Text) → (length w ≡ 0 → ⊥)
     → amountOf w
     ≡ cond (eqb (getD w 0 0) 45) (less (octalUpTo 0o200 (drop 1 w)))
-      (cond (eqb (getD w 0 0) 43) (plus (octalUpTo 0o177 (drop 1 w))) (plus (octalUpTo 0o177 w)))
+    (cond (eqb (getD w 0 0) 43) (plus (octalUpTo 0o177 (drop 1 w))) (plus (octalUpTo 0o177 w)))
 unfolding amountOf
 by-sign [] h = absurd (h refl)
 by-sign (c ∷ t) h = refl

@@ -4,3 +4,4 @@ pub mod Runs
 pub mod Spelling
 pub mod Octals
 pub mod Amounts
+pub mod Steps

@@ -11,6 +11,10 @@ use Rattle.lines.specs.Lines.{Text}
 use Rattle.notation.specs.Words.{before, after}
 
 module _ (test : ℕ → Bool) where
+  pub past : (t : Text) (n : ℕ) → length t ≤ n → length (before test (drop n t)) ≡ 0
+  unfolding before
+  past t n h = rw (drop-of-length-le t h)
+
   -- n characters of a run are passed, and what is left has the rest of it
   module _ (t : Text) (n : ℕ) (left : length (before test t) ≡ n + length (before test (drop n t))) where
     pub passed : n < length t → test (getD t n 0) ≡ true → length (before test t) ≡ (n + 1) + length (before test (drop (n + 1) t))
@@ -22,8 +26,7 @@ module _ (test : ℕ → Bool) where
     stopped h e = rw (left, drop-cons t n 0 h, e) (omega arith)
 
     pub ended : length t ≤ n → n ≡ length (before test t)
-    unfolding before
-    ended h = rw (left, drop-of-length-le t h) (omega arith)
+    ended h = rw (left, past t n h) (omega arith)
 
   parted : (t : Text) → before test t ++ after test t ≡ t
   unfolding before after

@@ -15,10 +15,11 @@ use Rattle.notation.specs.declared.Line.the-variants.{Blank, Event as An
 abbrev pub examples : List (Text × Line)
 examples =
     (chars "", Blank) ∷
-    (chars " \t\r # a comment alone", Blank) ∷
-    (chars "reference user data write trap 167456",
-     AnEvent (Refer (record { mode = 3; space = 1; access = 1; phase = 1; va = 0o167456; }))) ∷
-    (chars "reference 4 0 0 0 0", AnEvent (Refer (record { mode = 4; space = 0; access = 0; phase = 0; va = 0; }))) ∷
+    (chars " \t\r # a comment alone", Blank) ∷ (
+      chars "reference user data write trap 167456",
+      AnEvent (Refer (record { mode = 3; space = 1; access = 1; phase = 1; va = 0o167456 })),
+    ) ∷
+    (chars "reference 4 0 0 0 0", AnEvent (Refer (record { mode = 4; space = 0; access = 0; phase = 0; va = 0 }))) ∷
     (chars "\tread  00777572#SR0", AnEvent (Read 0o777572)) ∷
     (chars "read 77777777", AnEvent (Read 0o77777777)) ∷
     (chars "read 100000000", Bad (AField Address)) ∷

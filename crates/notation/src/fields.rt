@@ -33,7 +33,11 @@ fn same(a: &[u8], b: &[u8]) -> bool
 fn place(word: &[u8], name: &[u8], n: u32, other: Number) -> Number
     ensures { λ r. ⌜ r ≡ cond (same (now (word .entry)) (now (name .entry))) (Is n) other ⌝ }
 {
-    if same(word, name) { Number::Is(n) } else { other }
+    if same(word, name) {
+        Number::Is(n)
+    } else {
+        other
+    }
 }
 
 // the place of an event's name
@@ -61,9 +65,7 @@ fn mode(word: &[u8], other: Number) -> Number
 
 // one of two words, or a number
 fn either(word: &[u8], first: &[u8], second: &[u8]) -> Number
-    ensures {
-        λ r. ⌜ r ≡ placeOr (octalUpTo 0o377 (now (word .entry))) (now (word .entry)) 0 (now (first .entry) ∷ now (second .entry) ∷ []) ⌝
-    }
+    ensures { λ r. ⌜ r ≡ placeOr (octalUpTo 0o377 (now (word .entry))) (now (word .entry)) 0 (now (first .entry) ∷ now (second .entry) ∷ []) ⌝ }
 {
     let n = place(word, second, 1, octal(word, 0o377));
     place(word, first, 0, n)

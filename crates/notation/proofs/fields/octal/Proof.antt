@@ -35,9 +35,10 @@ returns-4 c =
 loop-again : tie.Need-loop-again Inv-loop μ-loop
 loop-again c =
     let at-if2 = c .before .before in
-    let at-test = at-if2 .before .before in
-    (omega arith,
-     one-more _ _ _ _ (at-test .before .loop .inv .1) (at-test .loop-test .taken) (at-if2 .if2 .left) (c .before .if3 .left))
+    let at-test = at-if2 .before .before in (
+      omega arith,
+      one-more _ _ _ _ (at-test .before .loop .inv .1) (at-test .loop-test .taken) (at-if2 .if2 .left) (c .before .if3 .left),
+    )
 
 returns-5 : tie.Need-returns-5 Inv-loop μ-loop
 returns-5 c = let loop = c .before .loop in complete _ _ _ (loop .i) (loop .inv .1) (c .loop-test .left) (loop .inv .0 .1)
