@@ -1,1 +1,7 @@
 pub mod Examples
+pub mod Parts
+pub mod Runs
+pub mod Spelling
+pub mod Octals
+pub mod Amounts
+pub mod Steps

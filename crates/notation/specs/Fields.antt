@@ -58,7 +58,7 @@ abbrev pub upTo : ℕ → Number → Number
 upTo most (Is n) = cond (leb n most) (Is n) None
 upTo most None = None
 
-abbrev pub octalUpTo : ℕ → Text → Number
+unfoldable pub octalUpTo : ℕ → Text → Number
 octalUpTo most w = upTo most (octalOf w)
 
 -- a word's place in a list, whose first is place n; else another number

@@ -38,10 +38,10 @@ givenAmount (By z) next = next z
 givenAmount NoAmount next = Bad AnAmount
 
 -- a field is the first word of a text; its number and the text after it go on
-abbrev pub field : Field → Text → (ℕ → Text → Line) → Line
+unfoldable pub field : Field → Text → (ℕ → Text → Line) → Line
 field f t next = given (AField f) (numberOf f (firstWord t)) (λ n. next n (afterWord t))
 
-abbrev pub amount : Text → (ℤ → Text → Line) → Line
+unfoldable pub amount : Text → (ℤ → Text → Line) → Line
 amount t next = givenAmount (amountOf (firstWord t)) (λ z. next z (afterWord t))
 
 -- no word follows the last field

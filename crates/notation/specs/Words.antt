@@ -13,6 +13,10 @@ blank c = eqb c 32 || eqb c 9 || eqb c 13
 abbrev pub inWord : ℕ → Bool
 inWord c = not (blank c || eqb c 35)
 
+-- a character of a line: no line feed
+abbrev pub notFeed : ℕ → Bool
+notFeed c = not (eqb c 10)
+
 -- the characters before the first that fails a test, and that one with all after it
 unfoldable pub before : (ℕ → Bool) → Text → Text
 before test [] = []

@@ -2,7 +2,14 @@
 
 use rules::Event;
 ghost use mathlib.Core.Path.{_≡_};
+ghost use Prim.Native.Nat.{_+_};
+ghost use lib.ListN.{length, drop};
+ghost use Rattle.notation.specs.Words.{before, notFeed};
 ghost use Rattle.notation.specs.Lines.{lineOf};
+
+mod fields;
+mod named;
+mod words;
 
 // A field with a number.
 pub enum Field {
@@ -48,4 +55,28 @@ pub enum Number {
 pub enum Amount {
     By(i32),
     None,
+}
+
+// What a line says, without its line feed.
+pub fn read_line(line: &[u8]) -> Line
+    ensures { λ r. ⌜ r ≡ lineOf (now (line .entry)) ⌝ }
+{
+    let word = words::first_word(line);
+    if word.len() == 0 {
+        return Line::Blank;
+    }
+    match fields::name(word) {
+        Number::Is(place) => named::line(place, words::after_word(line)),
+        Number::None => Line::Bad(Expected::Name),
+    }
+}
+
+// The place of the first line feed from a place on: the text's end where there is none.
+pub fn line_end(text: &[u8], from: usize) -> usize
+    ensures { λ r. ⌜ r ≡ from + length (before notFeed (drop from (now (text .entry)))) ⌝ }
+{
+    if text.len() < from {
+        return from;
+    }
+    from + words::run(&text[from..], words::Class::Line)
 }

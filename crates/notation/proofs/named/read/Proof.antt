@@ -1,0 +1,23 @@
+-- The address, and nothing after it.
+use borrow.Author.Needs.{needs}
+use Rattle.notation.proofs.Steps.{found, missing}
+use Rattle.notation.proofs.named.read.Statement.{statement}
+use Rattle.notation.proofs.named.read.Tie as tie
+
+returns : tie.Need-returns
+returns c = search missing
+
+returns-2 : tie.Need-returns-2
+returns-2 c = search found
+
+pub read-spec : {M : Type 1} → statement M
+read-spec =
+    tie.close
+    (tie.spec
+    (λ c κs. search needs)
+    (λ c. search needs)
+    (λ c. search needs)
+    returns
+    (λ c κs. search needs)
+    (λ c κs. search needs)
+    returns-2)

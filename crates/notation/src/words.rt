@@ -1,0 +1,67 @@
+// A text's words, as parts of the lent text.
+
+ghost use mathlib.Core.Path.{_≡_};
+ghost use Prim.Native.Nat.{_≤_};
+ghost use lib.ListN.{length};
+ghost use Rattle.notation.specs.Words.{blank, before, after, firstWord, afterWord};
+ghost use Rattle.notation.specs.Classes.{testOf};
+
+// What a run of characters is made of.
+pub(crate) enum Class {
+    Blanks,
+    Word,
+    Line,
+}
+
+fn blank(c: u8) -> bool
+    ensures { λ r. ⌜ r ≡ blank c ⌝ }
+{
+    (c == b' ') | (c == b'\t') | (c == b'\r')
+}
+
+fn passes(class: Class, c: u8) -> bool
+    ensures { λ r. ⌜ r ≡ testOf class c ⌝ }
+{
+    match class {
+        Class::Blanks => blank(c),
+        Class::Word => !(blank(c) | (c == b'#')),
+        Class::Line => c != b'\n',
+    }
+}
+
+// the length of the run at the start of a text
+pub(crate) fn run(t: &[u8], class: Class) -> usize
+    ensures { λ r. ⌜ (r ≡ length (before (testOf class) (now (t .entry)))) × (r ≤ length (now (t .entry))) ⌝ }
+{
+    let mut n = 0;
+    while n < t.len() && passes(class, t[n]) {
+        n += 1;
+    }
+    n
+}
+
+fn before(t: &[u8], class: Class) -> &[u8]
+    ensures { λ r. ⌜ now r ≡ before (testOf class) (now (t .entry)) ⌝ }
+{
+    let n = run(t, class);
+    &t[..n]
+}
+
+fn after(t: &[u8], class: Class) -> &[u8]
+    ensures { λ r. ⌜ now r ≡ after (testOf class) (now (t .entry)) ⌝ }
+{
+    let n = run(t, class);
+    &t[n..]
+}
+
+pub(crate) fn first_word(t: &[u8]) -> &[u8]
+    ensures { λ r. ⌜ now r ≡ firstWord (now (t .entry)) ⌝ }
+{
+    before(after(t, Class::Blanks), Class::Word)
+}
+
+pub(crate) fn after_word(t: &[u8]) -> &[u8]
+    ensures { λ r. ⌜ now r ≡ afterWord (now (t .entry)) ⌝ }
+{
+    after(after(t, Class::Blanks), Class::Word)
+}
