@@ -1,5 +1,6 @@
 pub mod Values
 pub mod Papers
+pub mod Numbers
 pub mod Places
 pub mod Outcomes
 pub mod Bools

@@ -19,7 +19,7 @@ use Rattle.records.proofs.Recordings.{everyRecord}
 use Rattle.writer.specs.Bytes.{recordOf}
 use Rattle.writer.specs.Writing.{Said, Used, X, large, short, unwritten, answer, write}
 use Rattle.trips.specs.Trips.{onwards, writeAll, events, whole, Held, AllHeld, Bytes, ReadBack, WrittenBack}
-use Rattle.writer.proofs.Judged.{fitting, used-tells}
+use Rattle.writer.proofs.Judged.{fitting, accepted, not-large}
 use Rattle.trips.proofs.Reading.{Fits, found}
 use Rattle.trips.proofs.Writing.{whole-back}
 
@@ -32,31 +32,14 @@ abbrev AllFit : List Event → Type 0
 AllFit [] = Unit {0}
 AllFit (e ∷ es) = Fits e × AllFit es
 
--- no number is given by two lists of conditions exactly if by neither
-neither-given : (cs ds : Conditions) → lowest cs ≡ 0 → lowest ds ≡ 0 → lowest (cs ++ ds) ≡ 0
-neither-given [] ds f g = g
-neither-given ((n, true) ∷ cs) ds f g = f
-neither-given ((n, false) ∷ cs) ds f g = neither-given cs ds f g
-
-first-not-given : (cs ds : Conditions) → lowest (cs ++ ds) ≡ 0 → lowest cs ≡ 0
-first-not-given [] ds h = refl
-first-not-given ((n, true) ∷ cs) ds h = h
-first-not-given ((n, false) ∷ cs) ds h = first-not-given cs ds h
-
-not-large : (room at : ℕ) (e : Event) → unwritten room at e ≡ 0 → Fits e
-unfolding unwritten
-not-large room at e n = first-not-given (large e) (short room at (length (recordOf e))) n
-
 module _ (b : List ℕ) (at : ℕ) (e : Event) where
   -- the buffer after an event is written
   unfoldable placed : List ℕ
   placed = take at b ++ recordOf e ++ drop (at + length (recordOf e)) b
 
   written : Fits e → at + length (recordOf e) ≤ length b → write b at e ≡ (Used (at + length (recordOf e)), placed)
-  unfolding write unwritten placed
-  written f h =
-      let n = neither-given (large e) (short (length b) at (length (recordOf e))) f (rw (le-ltb (length b) (at + length (recordOf e)) h)) in
-      rw n
+  unfolding write placed
+  written f h = rw (accepted (length b) at e f h)
 
   module _ (h : at + length (recordOf e) ≤ length b) where
     front : length (take at b ++ recordOf e) ≡ at + length (recordOf e)

@@ -1,16 +1,18 @@
 -- What an answer tells of the refusal's number, and number 0 of the event: its record fits, and so does its amount.
 use mathlib.Core.Path.{_≡_, refl, sym, ap, _∙_}
 use mathlib.Core.Bool.{Bool, true, false, cond, not, _||_, true≢false, false≢true}
+use mathlib.Core.List.{[], _∷_, _++_}
 use Prim.Native.Nat.{ℕ, suc, _+_, _≤_, _<_}
 use native.Mathlib.Omega.{arith}
 use lib.ListN.{length}
 use lib.Dec.{ltb, eqb}
 use lib.IntN.{ℤ}
-use borrow.Author.Tests.{ltb-false, eqb-true, eqb-false}
+use borrow.Author.Tests.{le-ltb, ltb-false, eqb-true}
+use Rattle.rules.specs.Refusals.{Conditions, lowest}
 use Rattle.rules.specs.declared.Event.{Event}
 use Rattle.rules.specs.declared.Event.the-variants.{Refer, Read, Write, Instruction, Interrupt, Change, Init}
 use Rattle.writer.specs.Bytes.{recordOf}
-use Rattle.writer.specs.Writing.{Said, Used, X, inByte, unwritten, answer}
+use Rattle.writer.specs.Writing.{Said, Used, X, inByte, large, short, unwritten, answer}
 
 -- a condition whose number is not given, and those after it
 pub passed : (x : Bool) (n rest : ℕ) → cond x (suc n) rest ≡ 0 → (x ≡ false) × (rest ≡ 0)
@@ -73,3 +75,23 @@ refused-tells n next k e = by (eqb n 0) refl e
     by : (x : Bool) → eqb n 0 ≡ x → X k ≡ cond x (Used next) (X n) → eqb n 0 ≡ false
     by true h e = absurd (false≢true (ap is-used e))
     by false h e = h
+
+-- no number is given by two lists of conditions exactly if by neither
+neither-given : (cs ds : Conditions) → lowest cs ≡ 0 → lowest ds ≡ 0 → lowest (cs ++ ds) ≡ 0
+neither-given [] ds f g = g
+neither-given ((n, true) ∷ cs) ds f g = f
+neither-given ((n, false) ∷ cs) ds f g = neither-given cs ds f g
+
+first-not-given : (cs ds : Conditions) → lowest (cs ++ ds) ≡ 0 → lowest cs ≡ 0
+first-not-given [] ds h = refl
+first-not-given ((n, true) ∷ cs) ds h = h
+first-not-given ((n, false) ∷ cs) ds h = first-not-given cs ds h
+
+-- an event whose fields fit, and whose record fits in what is left
+pub accepted : (room used : ℕ) (e : Event) → lowest (large e) ≡ 0 → used + length (recordOf e) ≤ room → unwritten room used e ≡ 0
+unfolding unwritten
+accepted room used e f h = neither-given (large e) (short room used (length (recordOf e))) f (rw (le-ltb room (used + length (recordOf e)) h))
+
+pub not-large : (room used : ℕ) (e : Event) → unwritten room used e ≡ 0 → lowest (large e) ≡ 0
+unfolding unwritten
+not-large room used e n = first-not-given (large e) (short room used (length (recordOf e))) n

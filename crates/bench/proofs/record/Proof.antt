@@ -11,7 +11,8 @@ use Rattle.writer.proofs.Judged.{used-tells}
 use Rattle.writer.specs.declared.Wrote.{Wrote}
 use Rattle.writer.specs.declared.Wrote.the-variants.{Upto, Refused}
 use Rattle.bench.specs.Codes.{coded}
-use Rattle.bench.proofs.Lengths.{at-most-seven, at-most-14}
+use Rattle.rules.proofs.Numbers.{at-most-14}
+use Rattle.writer.proofs.Lengths.{at-most-seven}
 use borrow.Author.Needs.{needs}
 use Rattle.bench.proofs.record.Statement.{statement}
 use Rattle.bench.proofs.record.Tie as tie
