@@ -14,7 +14,7 @@ pub struct Reader<'a> {
 
 // What stands at a place of a recording.
 fn found_at(recording: &[u8], at: usize) -> Found
-    ensures { λ f. ⌜ f ≡ recordAt (now (recording .entry)) at ⌝ }
+    ensures { λ r. ⌜ r ≡ recordAt (now (recording .entry)) at ⌝ }
 {
     Cursor { at }.read(recording)
 }
