@@ -1,5 +1,5 @@
-/* kt11c.h: the KT11-C memory management unit as a static library (libboard.a), and the replay of a recording
- * as another (libtape.a).
+/* kt11c.h: the KT11-C memory management unit as a static library (libboard.a), the replay of a recording as
+ * another (libtape.a), and the writing and reading of recordings as a third (libbench.a).
  *
  * The unit keeps no state of its own. The caller lends its registers, 100 words of 16 bits:
  *     0 to 47   page address registers (PAR): Kernel I 0 to 7, Kernel D, Supervisor I, D, User I, D
@@ -10,7 +10,7 @@
  * that nothing else reads or writes during the call. Everything else is judged: any numbers, and a count
  * other than 100, get an answer.
  *
- * Every call but kt11c_replay, at the end, answers one number. Its top four bits say what it is:
+ * Every call on the unit answers one number. Its top four bits say what it is:
  *     1  granted   bits 17:0 are the byte; bit 24 is set if the reference traps; bits 23:18 are the place of the page
  *                  that served, 0 to 47 counted as in the store, or 63 for none: relocation is off
  *     2  aborted   bit 2 non-resident, bit 1 length, bit 0 read-only
@@ -78,7 +78,7 @@ uint32_t kt11c_change(uint16_t *store, size_t words, uint32_t general_register, 
 /* INIT: SR0 to SR3 become 0; PAR and PDR stay. Done, or refused by 1. */
 uint32_t kt11c_init(uint16_t *store, size_t words);
 
-/* Recordings (libtape.a).
+/* Replaying a recording (libtape.a).
  *
  * A recording is replayed from the record at place `at` on, 0 for the first: each event happens on the store, and
  * its line goes to `out`, while the next line fits what is left of `room`. Where it does not, neither does its event
@@ -93,6 +93,54 @@ uint32_t kt11c_init(uint16_t *store, size_t words);
 
 size_t kt11c_replay(uint16_t *store, size_t words, const uint8_t *recording, size_t bytes, size_t at,
                     uint8_t *out, size_t room);
+
+/* Writing a recording (libbench.a).
+ *
+ * Each call appends the one record of its event to the `used` bytes at the start of `buffer`, which has `room`
+ * bytes. It answers 6 in its top four bits and how many bytes were appended, 1 to 7, in bits 2:0:
+ *     used += KT11C_APPENDED(answer)
+ * or 5 and a refusal's number in bits 3:0, and then not a byte has changed. A field too large for its bytes is
+ * refused first, the lowest number alone:
+ *     2 mode, 3 space, 4 access, 5 phase above 255       6 address above 77777777 (octal)
+ *     9 register above 255, or amount outside -128 to 127
+ * and then 14 a record that does not fit in what is left; a `used` beyond `room` leaves nothing. An event that
+ * fits is written even if the unit would refuse it. The caller owes the same for `buffer` as above for `store`. */
+#define KT11C_RECORDED 6u
+#define KT11C_APPENDED(answer) ((answer) & 0x7u)
+
+uint32_t kt11c_record_reference(uint8_t *buffer, size_t room, size_t used, uint32_t mode, uint32_t space,
+                                uint32_t access, uint32_t phase, uint16_t va);
+uint32_t kt11c_record_read(uint8_t *buffer, size_t room, size_t used, uint32_t address);
+uint32_t kt11c_record_write(uint8_t *buffer, size_t room, size_t used, uint32_t address, uint16_t value);
+uint32_t kt11c_record_instruction(uint8_t *buffer, size_t room, size_t used, uint16_t va);
+uint32_t kt11c_record_interrupt(uint8_t *buffer, size_t room, size_t used, uint16_t vector);
+uint32_t kt11c_record_change(uint8_t *buffer, size_t room, size_t used, uint32_t general_register, int32_t amount);
+uint32_t kt11c_record_init(uint8_t *buffer, size_t room, size_t used);
+
+/* Reading a recording (libbench.a), record after record from place 0 on.
+ *
+ * What stands at place `at` as one number of 64 bits. Its top four bits say what it is:
+ *     0  the end of the recording, or a place beyond it
+ *     5  refused   bits 3:0 are the number: 11 unknown record kind, 12 record cut short
+ *     7  an event  bits 59:56 are its kind, as in a record: 1 reference, 2 register read, 3 register write,
+ *                  4 instruction start, 5 interrupt start, 6 change noted, 7 INIT; below them are its fields
+ * kt11c_place_after answers the place past the record at `at`, and the same place where no whole record stands. */
+#define KT11C_FOUND(event) ((unsigned)((event) >> 60))
+#define KT11C_END 0u
+#define KT11C_EVENT 7u
+
+#define KT11C_RECORD_KIND(event) ((unsigned)((event) >> 56) & 0xfu)
+#define KT11C_EVENT_MODE(event) ((uint32_t)(event) & 0xffu)            /* kind 1 */
+#define KT11C_EVENT_SPACE(event) ((uint32_t)((event) >> 8) & 0xffu)    /* kind 1 */
+#define KT11C_EVENT_ACCESS(event) ((uint32_t)((event) >> 16) & 0xffu)  /* kind 1 */
+#define KT11C_EVENT_PHASE(event) ((uint32_t)((event) >> 24) & 0xffu)   /* kind 1 */
+#define KT11C_EVENT_ADDRESS(event) ((uint32_t)(event) & 0xffffffu)     /* kinds 2 and 3 */
+#define KT11C_EVENT_WORD(event) ((uint16_t)((event) >> 32))            /* VA, value or vector: kinds 1, 3, 4 and 5 */
+#define KT11C_EVENT_REGISTER(event) ((uint32_t)((event) >> 8) & 0xffu) /* kind 6 */
+#define KT11C_EVENT_AMOUNT(event) ((int32_t)((event) & 0xffu) - 128)   /* kind 6 */
+
+uint64_t kt11c_event_at(const uint8_t *recording, size_t bytes, size_t at);
+size_t kt11c_place_after(const uint8_t *recording, size_t bytes, size_t at);
 
 #ifdef __cplusplus
 }

@@ -3,7 +3,6 @@
 
 mod codes;
 
-use records::Cursor;
 use records::Found;
 use rules::Event;
 use rules::Reference;
@@ -12,6 +11,7 @@ ghost use mathlib.Core.Path.{_≡_};
 ghost use Rattle.rules.specs.declared.Event.the-variants.{Refer, Read, Write, Instruction, Interrupt, Change, Init};
 ghost use Rattle.records.specs.Records.{recordAt};
 ghost use Rattle.writer.specs.Writing.{write};
+ghost use Rattle.reader.specs.Reading.{placeAfter};
 ghost use Rattle.bench.specs.Codes.{referenceOf, coded, foundCode};
 
 // Appends an event's record.
@@ -106,10 +106,17 @@ pub extern "C" fn kt11c_record_init(buffer: &mut [u8], used: usize) -> u32
 pub extern "C" fn kt11c_event_at(recording: &[u8], at: usize) -> u64
     ensures { λ n. ⌜ n ≡ foundCode (recordAt (now (recording .entry)) at) ⌝ }
 {
-    let cursor = Cursor { at };
-    match cursor.read(recording) {
+    match reader::read(recording, at) {
         Found::Whole(event, _) => codes::event_code(event),
         Found::Refused(refusal) => 0x5000000000000000 + rules::number(refusal) as u64,
         Found::End => 0,
     }
+}
+
+// The place past the record at a place; the same place where no whole record stands.
+#[no_mangle]
+pub extern "C" fn kt11c_place_after(recording: &[u8], at: usize) -> usize
+    ensures { λ n. ⌜ n ≡ placeAfter (now (recording .entry)) at ⌝ }
+{
+    reader::after(recording, at)
 }
