@@ -1,6 +1,9 @@
 -- What C sees of a recording that is written or read: one number. include/kt11c.h says the same for C.
-use Prim.Native.Nat.{ℕ, _+_, _*_, _-_}
+use Prim.Native.Nat.{ℕ, _+_, _*_, _-_, _/_, _%_}
+use mathlib.Core.Path.{_≡_}
+use mathlib.Core.Bool.{cond}
 use mathlib.Core.List.{List}
+use lib.Dec.{ltb, eqb}
 use lib.IntN.{ℤ, pos, negsuc}
 use Rattle.rules.specs.Paper.{number}
 use Rattle.rules.specs.declared.Reference.{Reference}
@@ -8,7 +11,9 @@ use Rattle.rules.specs.declared.Event.{Event}
 use Rattle.rules.specs.declared.Event.the-variants.{Refer, Read, Write, Instruction, Interrupt, Change, Init}
 use Rattle.records.specs.declared.Found.{Found}
 use Rattle.records.specs.declared.Found.the-variants.{Whole, Refused, End}
-use Rattle.writer.specs.Writing.{Said, Used, X}
+use Rattle.rules.specs.Refusals.{lowest}
+use Rattle.writer.specs.Writing.{Said, Used, X, large}
+use Rattle.trips.specs.Trips.{Held}
 
 abbrev pub referenceOf : ℕ → ℕ → ℕ → ℕ → ℕ → Reference
 referenceOf mode space access phase va = record { mode = mode; space = space; access = access; phase = phase; va = va }
@@ -55,3 +60,26 @@ abbrev pub foundCode : Found → ℕ
 foundCode (Whole e next) = eventCode e
 foundCode (Refused r) = 0x5000000000000000 + number r
 foundCode End = 0
+
+-- the event that a code stands for
+abbrev pub unexcess : ℕ → ℤ
+unexcess n = cond (ltb n 128) (negsuc (127 - n)) (pos (n - 128))
+
+unfoldable pub eventOf : ℕ → Event
+eventOf code =
+    let kind = code / 0x100000000000000 % 16 in
+    let word = code / 0x100000000 % 0x10000 in
+    let address = code % 0x1000000 in
+    let low = code % 0x100 in
+    let second = code / 0x100 % 0x100 in
+    cond (eqb kind 1) (Refer (referenceOf low second (code / 0x10000 % 0x100) (code / 0x1000000 % 0x100) word))
+    (cond (eqb kind 2) (Read address)
+    (cond (eqb kind 3) (Write address word)
+    (cond (eqb kind 4) (Instruction word)
+    (cond (eqb kind 5) (Interrupt word)
+    (cond (eqb kind 6) (Change second (unexcess low))
+    Init)))))
+
+-- an event whose fields fit is read back from its code, so that no two have the same one
+abbrev pub CodeReadBack : Type 0
+CodeReadBack = (e : Event) → lowest (large e) ≡ 0 → Held e → eventOf (eventCode e) ≡ e

@@ -1,7 +1,7 @@
 -- What an answer tells of the refusal's number, and number 0 of the event: its record fits, and so does its amount.
 use mathlib.Core.Path.{_≡_, refl, sym, ap, _∙_}
 use mathlib.Core.Bool.{Bool, true, false, cond, not, _||_, true≢false, false≢true}
-use mathlib.Core.List.{[], _∷_, _++_}
+use mathlib.Core.List.{List, [], _∷_, _++_}
 use Prim.Native.Nat.{ℕ, suc, _+_, _≤_, _<_}
 use native.Mathlib.Omega.{arith}
 use lib.ListN.{length}
@@ -12,7 +12,7 @@ use Rattle.rules.specs.Refusals.{Conditions, lowest}
 use Rattle.rules.specs.declared.Event.{Event}
 use Rattle.rules.specs.declared.Event.the-variants.{Refer, Read, Write, Instruction, Interrupt, Change, Init}
 use Rattle.writer.specs.Bytes.{recordOf}
-use Rattle.writer.specs.Writing.{Said, Used, X, inByte, large, short, unwritten, answer}
+use Rattle.writer.specs.Writing.{Said, Used, X, inByte, large, short, unwritten, answer, write}
 
 -- a condition whose number is not given, and those after it
 pub passed : (x : Bool) (n rest : ℕ) → cond x (suc n) rest ≡ 0 → (x ≡ false) × (rest ≡ 0)
@@ -68,13 +68,19 @@ used-tells n next used e = by (eqb n 0) refl e
     by true h e = (eqb-true n 0 h, ap count e)
     by false h e = absurd (true≢false (ap is-used e))
 
-pub refused-tells : (n next k : ℕ) → X k ≡ answer n next → eqb n 0 ≡ false
+refused-tells : (n next k : ℕ) → X k ≡ answer n next → eqb n 0 ≡ false
 unfolding is-used
 refused-tells n next k e = by (eqb n 0) refl e
   where
     by : (x : Bool) → eqb n 0 ≡ x → X k ≡ cond x (Used next) (X n) → eqb n 0 ≡ false
     by true h e = absurd (false≢true (ap is-used e))
     by false h e = h
+
+-- what is refused leaves the buffer as it was
+pub refusing : (b : List ℕ) (used : ℕ) (e : Event) (k : ℕ) → X k ≡ answer (unwritten (length b) used e) (used + length (recordOf e))
+    → (X k, b) ≡ write b used e
+unfolding write
+refusing b used e k told = rw (told, refused-tells (unwritten (length b) used e) (used + length (recordOf e)) k told)
 
 -- no number is given by two lists of conditions exactly if by neither
 neither-given : (cs ds : Conditions) → lowest cs ≡ 0 → lowest ds ≡ 0 → lowest (cs ++ ds) ≡ 0

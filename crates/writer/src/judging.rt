@@ -80,9 +80,10 @@ fn judge_room(room: usize, used: usize, bytes: usize) -> Wrote
     ensures { λ w. ⌜ said w ≡ answer (lowest (shortOf room used bytes)) (used + bytes) ⌝ }
 {
     if short(room, used, bytes) {
-        return Wrote::Refused(Refusal::Room);
+        Wrote::Refused(Refusal::Room)
+    } else {
+        Wrote::Upto(used + bytes)
     }
-    Wrote::Upto(used + bytes)
 }
 
 // The answer of writing into a buffer of so much room.

@@ -1,14 +1,9 @@
 -- `write` meets its contract: what is judged is answered, and the record is stored where the answer is a number of bytes used.
-use mathlib.Core.Path.{_≡_, sym, ap, _∙_}
-use mathlib.Core.List.{_++_}
-use Prim.Native.Nat.{_+_}
-use lib.ListN.{length, take, drop}
 use lib.Seq.{sets-eq}
 use borrow.Author.Tests.{eq-eqb}
-use Rattle.writer.specs.Bytes.{recordOf}
-use Rattle.writer.specs.Writing.{said, unwritten, answer, write}
-use Rattle.writer.proofs.Judged.{fitting, used-tells, refused-tells}
 use borrow.Author.Needs.{needs}
+use Rattle.writer.specs.Writing.{write}
+use Rattle.writer.proofs.Judged.{fitting, used-tells, refusing}
 use Rattle.writer.proofs.write.Statement.{statement}
 use Rattle.writer.proofs.write.Tie as tie
 
@@ -18,17 +13,17 @@ put-requires c κs =
     let at-judge = at-next .before .before in
     used-tells _ _ _ (rw (at-next .next .given .1) at (at-judge .judge .ensures)) .0
 
-returns : tie.Need-returns
-unfolding write
-returns c =
+refuses : tie.Need-returns
+refuses c =
     let at-refusal = c .before in
-    let at-judge = at-refusal .before .before in
-    let told = rw (at-refusal .refusal .given .1) at (at-judge .judge .ensures) in
-    rw (told, refused-tells _ _ _ told)
+    refusing _ _ _ _ (rw (at-refusal .refusal .given .1) at (at-refusal .before .before .judge .ensures))
 
-returns-2 : tie.Need-returns-2
+same-length : tie.Need-same-length
+same-length c = search needs
+
+writes : tie.Need-returns-2
 unfolding write
-returns-2 c =
+writes c =
     let at-put = c .before .before in
     let at-next = at-put .before .before .before in
     let at-judge = at-next .before .before in
@@ -44,6 +39,6 @@ write-spec =
     (λ c. search needs)
     (λ c. search needs)
     put-requires
-    returns
-    (λ c. search needs)
-    returns-2)
+    refuses
+    same-length
+    writes)

@@ -7,14 +7,16 @@ use borrow.Author.Needs.{needs}
 use Rattle.writer.proofs.judging.judge_room.Statement.{statement}
 use Rattle.writer.proofs.judging.judge_room.Tie as tie
 
+add-t7 : tie.Need-add-t7
+add-t7 c =
+    let a = c .before .before .args in
+    omega (arith, ltb-false (a .room) (a .used + a .bytes) (sym (c .before .short .ensures) ∙ c .if1 .left))
+
 returns : tie.Need-returns
 returns c = rw (sym (c .before .short .ensures) ∙ c .if1 .taken)
-
-add-t6 : tie.Need-add-t6
-add-t6 c = let a = c .before .before .args in omega (arith, ltb-false (a .room) (a .used + a .bytes) (sym (c .before .short .ensures) ∙ c .if1 .left))
 
 returns-2 : tie.Need-returns-2
 returns-2 c = rw (sym (c .before .short .ensures) ∙ c .if1 .left)
 
 pub judge-room-spec : {M : Type 1} → statement M
-judge-room-spec = tie.close (tie.spec (λ c κs. search needs) returns add-t6 returns-2)
+judge-room-spec = tie.close (tie.spec (λ c κs. search needs) add-t7 returns returns-2)
