@@ -8,20 +8,31 @@ fn say(text: &[u8]) {
     io::write_all(STDERR_FILENO, text);
 }
 
+// a field with words of its own
+fn words(field: &[u8]) {
+    say(field);
+    say(b", or an octal number to 377");
+}
+
+// a field with numbers alone
+fn number(field: &[u8], most: &[u8]) {
+    say(field);
+    say(b": an octal number to ");
+    say(most);
+}
+
 fn field(f: Field) {
     match f {
-        Field::Mode => {
-            say(b"a mode: kernel, supervisor, illegal, user, or an octal number to 377\n")
-        }
-        Field::Space => say(b"a space: instruction, data, or an octal number to 377\n"),
-        Field::Access => say(b"an access: read, write, or an octal number to 377\n"),
-        Field::Phase => say(b"a phase: instruction, trap, or an octal number to 377\n"),
-        Field::Va => say(b"a VA: an octal number to 177777\n"),
-        Field::Value => say(b"a value: an octal number to 177777\n"),
-        Field::Vector => say(b"a vector: an octal number to 177777\n"),
-        Field::Address => say(b"an address: an octal number to 77777777\n"),
-        Field::Register => say(b"a register: an octal number to 377\n"),
-        Field::Byte => say(b"a byte: an octal number to 377\n"),
+        Field::Mode => words(b"a mode: kernel, supervisor, illegal, user"),
+        Field::Space => words(b"a space: instruction, data"),
+        Field::Access => words(b"an access: read, write"),
+        Field::Phase => words(b"a phase: instruction, trap"),
+        Field::Va => number(b"a VA", b"177777"),
+        Field::Value => number(b"a value", b"177777"),
+        Field::Vector => number(b"a vector", b"177777"),
+        Field::Address => number(b"an address", b"77777777"),
+        Field::Register => number(b"a register", b"377"),
+        Field::Byte => number(b"a byte", b"377"),
     }
 }
 
@@ -34,13 +45,14 @@ fn begin(line: u64) {
 pub(crate) fn bad(line: u64, expected: Expected) {
     begin(line);
     match expected {
-        Expected::Name => say(
-            b"one of reference, read, write, instruction, interrupt, change, init, byte\n",
-        ),
+        Expected::Name => {
+            say(b"one of reference, read, write, instruction, interrupt, change, init, byte")
+        }
         Expected::Field(f) => field(f),
-        Expected::Amount => say(b"an amount: an octal number from -200 to 177\n"),
-        Expected::End => say(b"the end of the line\n"),
+        Expected::Amount => say(b"an amount: an octal number from -200 to 177"),
+        Expected::End => say(b"the end of the line"),
     }
+    say(b"\n");
 }
 
 pub(crate) fn long(line: u64) {
