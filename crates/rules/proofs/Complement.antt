@@ -1,5 +1,5 @@
 -- A signed number in range: its two's complement is what the code computes by a sum and a cast.
-use mathlib.Core.Path.{_≡_, refl, ap, sym}
+use mathlib.Core.Path.{_≡_, refl, ap, sym, _∙_}
 use mathlib.Core.Bool.{Bool, true, false, false≢true}
 use Prim.Native.Nat.{ℕ, suc, _-_, _+_, _<_, _≤_, _^_}
 use native.Mathlib.Omega.{arith}
@@ -17,17 +17,15 @@ abbrev pub Within : ℕ → ℤ → Type 0
 Within half (pos n) = n < half
 Within half (negsuc n) = n < half
 
--- what the machine holds of one below 0: the sum with one more than most is its two's complement
+-- what the machine makes of one below 0: the sum with one more than most fits, and is its two's complement
 pub record Low (most : ℕ) (z : ℤ) : Type 0 where
-  pub held : toZ w32 (ofZ w32 z) ≡ z
-  pub sum : z +ℤ pos (suc most) ≡ pos (complement most z)
+  pub added : SFits w32 (toZ w32 (ofZ w32 z) +ℤ pos (suc most))
+  pub cast : toZ w32 (ofZ w32 (toZ w32 (ofZ w32 z) +ℤ pos (suc most))) ≡ pos (complement most z)
   pub small : complement most z ≤ most
-  pub back : toZ w32 (ofZ w32 (pos (complement most z))) ≡ pos (complement most z)
 
 -- and of one from 0 up: it is its two's complement
 pub record High (most : ℕ) (z : ℤ) : Type 0 where
-  pub held : toZ w32 (ofZ w32 z) ≡ z
-  pub same : z ≡ pos (complement most z)
+  pub cast : toZ w32 (ofZ w32 z) ≡ pos (complement most z)
   pub small : complement most z ≤ most
 
 module _ (half most : ℕ) (two : suc most ≡ half + half) (narrow : most < 2 ^ 31) where
@@ -43,11 +41,14 @@ module _ (half most : ℕ) (two : suc most ≡ half + half) (narrow : most < 2 ^
   above (pos n) h = refl
   above (negsuc n) h = absurd (false≢true (sym h))
 
-  pub low : (z : ℤ) → SFits w32 z → Within half z → ltZ (toZ w32 (ofZ w32 z)) (pos 0) ≡ true → Low most z
-  low z f g h =
-      let e = toZ-ofZ w32 z f in
-      let k = at-most z g in
-      record { held = e; sum = below z g (rw e at h); small = k; back = toZ-ofZ w32 (pos (complement most z)) (record { sfits = omega arith }) }
+  module _ (z : ℤ) (f : SFits w32 z) (g : Within half z) where
+    pub low : ltZ (toZ w32 (ofZ w32 z)) (pos 0) ≡ true → Low most z
+    low h =
+        let held = toZ-ofZ w32 z f in
+        let sum : toZ w32 (ofZ w32 z) +ℤ pos (suc most) ≡ pos (complement most z) = rw held (below z g (rw held at h)) in
+        let k = at-most z g in
+        let fits : SFits w32 (pos (complement most z)) = record { sfits = omega arith } in
+        record { added = rw sum fits; cast = rw sum (toZ-ofZ w32 (pos (complement most z)) fits); small = k }
 
-  pub high : (z : ℤ) → SFits w32 z → Within half z → ltZ (toZ w32 (ofZ w32 z)) (pos 0) ≡ false → High most z
-  high z f g h = let e = toZ-ofZ w32 z f in record { held = e; same = above z (rw e at h); small = at-most z g }
+    pub high : ltZ (toZ w32 (ofZ w32 z)) (pos 0) ≡ false → High most z
+    high h = let held = toZ-ofZ w32 z f in record { cast = held ∙ above z (rw held at h); small = at-most z g }

@@ -6,34 +6,31 @@ use Rattle.events.proofs.changes.five_bits.Statement.{statement}
 use Rattle.events.proofs.changes.five_bits.Tie as tie
 
 add-result : tie.Need-add-result
-add-result c =
-    let k = below-0 _ (c .before .fits .amount) (c .before .pre) (c .if1 .taken) in
-    let n = k .small in
-    rw (k .held, k .sum) (record { sfits = omega arith })
+add-result c = below-0 _ (c .before .fits .amount) (c .before .pre) (c .if1 .taken) .added
 
 cast-result : tie.Need-cast-result
 cast-result c =
     let k = below-0 _ (c .before .fits .amount) (c .before .pre) (c .if1 .taken) in
     let n = k .small in
-    rw (k .held, k .sum, k .back) (tt, record { fits = omega arith })
+    rw (k .cast) (tt, record { fits = omega arith })
 
 cast-result-2 : tie.Need-cast-result-2
 cast-result-2 c =
     let k = from-0 _ (c .before .fits .amount) (c .before .pre) (c .if1 .left) in
     let n = k .small in
-    rw (k .held, k .same) (tt, record { fits = omega arith })
+    rw (k .cast) (tt, record { fits = omega arith })
 
 returns : tie.Need-returns
 returns c =
     let k = below-0 _ (c .before .fits .amount) (c .before .pre) (c .if1 .taken) in
     let n = k .small in
-    rw (k .held, k .sum, k .back) (refl, omega arith)
+    rw (k .cast) (refl, omega arith)
 
 returns-2 : tie.Need-returns-2
 returns-2 c =
     let k = from-0 _ (c .before .fits .amount) (c .before .pre) (c .if1 .left) in
     let n = k .small in
-    rw (k .held, k .same) (refl, omega arith)
+    rw (k .cast) (refl, omega arith)
 
 pub five-bits-spec : {M : Type 1} → statement M
 five-bits-spec = tie.close (tie.spec add-result cast-result cast-result-2 returns returns-2)
