@@ -5,3 +5,4 @@ pub mod Spelling
 pub mod Octals
 pub mod Amounts
 pub mod Steps
+pub mod Naming

@@ -5,7 +5,7 @@ use mathlib.Core.List.{[], _∷_, _++_}
 use Prim.Native.Nat.{ℕ, suc, _+_, _<_, _≤_}
 use native.Mathlib.Numerals.{add-one}
 use native.Mathlib.Omega.{arith}
-use lib.ListN.{length, take, drop, getD, drop-of-length-le}
+use lib.ListN.{length, take, drop, getD, drop-of-length-le, length-append}
 use lib.Seq.{drop-cons, take-append-seam, drop-append-seam}
 use Rattle.lines.specs.Lines.{Text}
 use Rattle.notation.specs.Words.{before, after}
@@ -42,3 +42,6 @@ module _ (test : ℕ → Bool) where
 
   pub run-dropped : (t : Text) → drop (length (before test t)) t ≡ after test t
   run-dropped t = rw (parted t) at (drop-append-seam (before test t) (after test t))
+
+  pub run-length : (t : Text) → length (before test t) + length (after test t) ≡ length t
+  run-length t = rw (← length-append, parted t)

@@ -1,7 +1,8 @@
 -- The words of a line (docs/NOTATION.md, "Lines"). A line is here a text without its line feed.
-use Prim.Native.Nat.{ℕ}
+use Prim.Native.Nat.{ℕ, zero, suc}
 use mathlib.Core.Bool.{Bool, true, false, cond, not, _&&_, _||_}
 use mathlib.Core.List.{List, [], _∷_}
+use lib.ListN.{length}
 use lib.Dec.{eqb}
 use Rattle.lines.specs.Lines.{Text}
 
@@ -43,3 +44,12 @@ same [] [] = true
 same [] (d ∷ u) = false
 same (c ∷ t) [] = false
 same (c ∷ t) (d ∷ u) = eqb c d && same t u
+
+-- the words of a text, at most k
+unfoldable pub wordsWithin : ℕ → Text → List Text
+wordsWithin zero t = []
+wordsWithin (suc k) t = cond (empty (firstWord t)) [] (firstWord t ∷ wordsWithin k (afterWord t))
+
+-- all of them: a text has no more words than characters
+abbrev pub wordsIn : Text → List Text
+wordsIn t = wordsWithin (length t) t

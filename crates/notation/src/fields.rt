@@ -3,15 +3,14 @@
 use crate::Amount;
 use crate::Field;
 use crate::Number;
+use crate::words;
 ghost use mathlib.Core.Path.{_≡_};
-ghost use mathlib.Core.Bool.{cond};
-ghost use mathlib.Core.List.{[], _∷_};
 ghost use Prim.Native.Nat.{_≤_};
-ghost use Rattle.notation.specs.Words.{same};
-ghost use Rattle.notation.specs.Fields.{wordsOf, octalUpTo, placeOr, numberOf, plus, less, amountOf};
+ghost use lib.ListN.{length};
+ghost use Rattle.notation.specs.Words.{same, wordsIn};
+ghost use Rattle.notation.specs.Fields.{octalUpTo, placeOr, numberOf, plus, less, amountOf};
 ghost use Rattle.notation.specs.Lines.{names};
-ghost use Rattle.notation.specs.declared.Field.the-variants.{Mode};
-ghost use Rattle.notation.specs.declared.Number.the-variants.{Is, None};
+ghost use Rattle.notation.specs.declared.Number.the-variants.{None};
 
 fn same(a: &[u8], b: &[u8]) -> bool
     ensures { λ r. ⌜ r ≡ same (now (a .entry)) (now (b .entry)) ⌝ }
@@ -29,14 +28,24 @@ fn same(a: &[u8], b: &[u8]) -> bool
     true
 }
 
-// a word that stands for a number, or else another number
-fn place(word: &[u8], name: &[u8], n: u32, other: Number) -> Number
-    ensures { λ r. ⌜ r ≡ cond (same (now (word .entry)) (now (name .entry))) (Is n) other ⌝ }
+// the place of a word among names parted by blanks, or else another number
+fn place(word: &[u8], names: &[u8], other: Number) -> Number
+    requires { ⌜ length (now names) ≤ 100 ⌝ }
+    ensures { λ r. ⌜ r ≡ placeOr other (now (word .entry)) 0 (wordsIn (now (names .entry))) ⌝ }
 {
-    if same(word, name) {
-        Number::Is(n)
-    } else {
-        other
+    let mut left = names;
+    let mut n = 0;
+    loop {
+        let name = words::first_word(left);
+        if name.len() == 0 {
+            return other;
+        }
+        if same(word, name) {
+            return Number::Is(n);
+        }
+        let next = words::after_word(left);
+        left = next;
+        n += 1;
     }
 }
 
@@ -44,31 +53,11 @@ fn place(word: &[u8], name: &[u8], n: u32, other: Number) -> Number
 pub(crate) fn name(word: &[u8]) -> Number
     ensures { λ r. ⌜ r ≡ placeOr None (now (word .entry)) 0 names ⌝ }
 {
-    let n = place(word, b"byte", 7, Number::None);
-    let n = place(word, b"init", 6, n);
-    let n = place(word, b"change", 5, n);
-    let n = place(word, b"interrupt", 4, n);
-    let n = place(word, b"instruction", 3, n);
-    let n = place(word, b"write", 2, n);
-    let n = place(word, b"read", 1, n);
-    place(word, b"reference", 0, n)
-}
-
-fn mode(word: &[u8], other: Number) -> Number
-    ensures { λ r. ⌜ r ≡ placeOr other (now (word .entry)) 0 (wordsOf Mode) ⌝ }
-{
-    let n = place(word, b"user", 3, other);
-    let n = place(word, b"illegal", 2, n);
-    let n = place(word, b"supervisor", 1, n);
-    place(word, b"kernel", 0, n)
-}
-
-// one of two words, or a number
-fn either(word: &[u8], first: &[u8], second: &[u8]) -> Number
-    ensures { λ r. ⌜ r ≡ placeOr (octalUpTo 0o377 (now (word .entry))) (now (word .entry)) 0 (now (first .entry) ∷ now (second .entry) ∷ []) ⌝ }
-{
-    let n = place(word, second, 1, octal(word, 0o377));
-    place(word, first, 0, n)
+    place(
+        word,
+        b"reference read write instruction interrupt change init byte",
+        Number::None,
+    )
 }
 
 // a number in octal digits, at most so large
@@ -102,10 +91,10 @@ pub(crate) fn number(word: &[u8], f: Field) -> Number
     ensures { λ r. ⌜ r ≡ numberOf f (now (word .entry)) ⌝ }
 {
     match f {
-        Field::Mode => mode(word, octal(word, 0o377)),
-        Field::Space => either(word, b"instruction", b"data"),
-        Field::Access => either(word, b"read", b"write"),
-        Field::Phase => either(word, b"instruction", b"trap"),
+        Field::Mode => place(word, b"kernel supervisor illegal user", octal(word, 0o377)),
+        Field::Space => place(word, b"instruction data", octal(word, 0o377)),
+        Field::Access => place(word, b"read write", octal(word, 0o377)),
+        Field::Phase => place(word, b"instruction trap", octal(word, 0o377)),
         Field::Va => octal(word, 0o177777),
         Field::Value => octal(word, 0o177777),
         Field::Vector => octal(word, 0o177777),

@@ -40,13 +40,6 @@ pub(crate) fn run(t: &[u8], class: Class) -> usize
     n
 }
 
-fn before(t: &[u8], class: Class) -> &[u8]
-    ensures { λ r. ⌜ now r ≡ before (testOf class) (now (t .entry)) ⌝ }
-{
-    let n = run(t, class);
-    &t[..n]
-}
-
 fn after(t: &[u8], class: Class) -> &[u8]
     ensures { λ r. ⌜ now r ≡ after (testOf class) (now (t .entry)) ⌝ }
 {
@@ -57,7 +50,9 @@ fn after(t: &[u8], class: Class) -> &[u8]
 pub(crate) fn first_word(t: &[u8]) -> &[u8]
     ensures { λ r. ⌜ now r ≡ firstWord (now (t .entry)) ⌝ }
 {
-    before(after(t, Class::Blanks), Class::Word)
+    let word = after(t, Class::Blanks);
+    let n = run(word, Class::Word);
+    &word[..n]
 }
 
 pub(crate) fn after_word(t: &[u8]) -> &[u8]
