@@ -1,5 +1,5 @@
-//! Links the proved static libraries: the unit's, which KT11C_LIB names, and the one that replays a
-//! recording, which KT11C_TAPE names.
+//! Links the proved static libraries: the unit's, which KT11C_LIB names, the one that replays a
+//! recording, which KT11C_TAPE names, and the one that writes and reads it, which KT11C_BENCH names.
 
 use std::env;
 use std::path::Path;
@@ -7,6 +7,7 @@ use std::path::Path;
 fn main() {
     link("KT11C_LIB", "board");
     link("KT11C_TAPE", "tape");
+    link("KT11C_BENCH", "bench");
 }
 
 /// Links the library that a variable names; `tools/hostlib` makes it from a crate.

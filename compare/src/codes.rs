@@ -4,7 +4,7 @@ use peer::Answer;
 
 /// A number that is no answer's: an unknown kind, or a bit its kind does not have.
 #[derive(Clone, Copy, Debug, PartialEq, Eq)]
-pub struct Stray(pub u32);
+pub struct Stray(pub u64);
 
 const GRANTED: u32 = 1 << 28;
 const ABORTED: u32 = 2 << 28;
@@ -53,12 +53,12 @@ pub fn decode(code: u32) -> Result<Answer, Stray> {
         WORD => Answer::Word(code as u16),
         DONE => Answer::Done,
         REFUSED => Answer::Refused((code & 0xf) as u8),
-        _ => return Err(Stray(code)),
+        _ => return Err(Stray(code.into())),
     };
     if encode(answer) == code && has_meaning(answer) {
         Ok(answer)
     } else {
-        Err(Stray(code))
+        Err(Stray(code.into()))
     }
 }
 
@@ -109,7 +109,7 @@ mod tests {
             0x6000_0000,
             0xffff_ffff,
         ] {
-            assert_eq!(decode(code), Err(Stray(code)), "{code:08x}");
+            assert_eq!(decode(code), Err(Stray(code.into())), "{code:08x}");
         }
     }
 }

@@ -3,6 +3,7 @@
 use peer::{Answer, Event};
 
 use crate::codes::{decode, Stray};
+use crate::record_codes::{decode_found, decode_written, Standing};
 
 /// The functions as C sees them. Each is owed a pointer to as many words, or bytes, as it is told.
 pub mod raw {
@@ -31,6 +32,41 @@ pub mod raw {
             out: *mut u8,
             room: usize,
         ) -> usize;
+        pub fn kt11c_record_reference(
+            buffer: *mut u8,
+            room: usize,
+            used: usize,
+            mode: u32,
+            space: u32,
+            access: u32,
+            phase: u32,
+            va: u16,
+        ) -> u32;
+        pub fn kt11c_record_read(buffer: *mut u8, room: usize, used: usize, address: u32) -> u32;
+        pub fn kt11c_record_write(
+            buffer: *mut u8,
+            room: usize,
+            used: usize,
+            address: u32,
+            value: u16,
+        ) -> u32;
+        pub fn kt11c_record_instruction(buffer: *mut u8, room: usize, used: usize, va: u16) -> u32;
+        pub fn kt11c_record_interrupt(
+            buffer: *mut u8,
+            room: usize,
+            used: usize,
+            vector: u16,
+        ) -> u32;
+        pub fn kt11c_record_change(
+            buffer: *mut u8,
+            room: usize,
+            used: usize,
+            register: u32,
+            amount: i32,
+        ) -> u32;
+        pub fn kt11c_record_init(buffer: *mut u8, room: usize, used: usize) -> u32;
+        pub fn kt11c_event_at(recording: *const u8, bytes: usize, at: usize) -> u64;
+        pub fn kt11c_place_after(recording: *const u8, bytes: usize, at: usize) -> usize;
     }
 }
 
@@ -123,5 +159,52 @@ pub fn apply(store: &mut [u16], event: Event) -> Answered {
         Event::Interrupt { vector } => interrupt_start(store, vector),
         Event::Change { register, amount } => note_change(store, register, amount),
         Event::Init => init(store),
+    }
+}
+
+/// The new number of used bytes, or the refusal's number.
+pub type Written = Result<Result<usize, u8>, Stray>;
+
+/// An event's record appended to the used bytes of a buffer.
+pub fn write_record(buffer: &mut [u8], used: usize, event: Event) -> Written {
+    let (start, room) = (buffer.as_mut_ptr(), buffer.len());
+    // SAFETY: the slice is `room` bytes that only this call reaches.
+    let code = unsafe {
+        match event {
+            Event::Reference {
+                mode,
+                space,
+                access,
+                phase,
+                va,
+            } => raw::kt11c_record_reference(start, room, used, mode, space, access, phase, va),
+            Event::Read { address } => raw::kt11c_record_read(start, room, used, address),
+            Event::Write { address, value } => {
+                raw::kt11c_record_write(start, room, used, address, value)
+            }
+            Event::Instruction { va } => raw::kt11c_record_instruction(start, room, used, va),
+            Event::Interrupt { vector } => raw::kt11c_record_interrupt(start, room, used, vector),
+            Event::Change { register, amount } => {
+                raw::kt11c_record_change(start, room, used, register, amount)
+            }
+            Event::Init => raw::kt11c_record_init(start, room, used),
+        }
+    };
+    decode_written(code).map(|written| written.map(|appended| used.wrapping_add(appended)))
+}
+
+/// What stands at a place of a recording, and the place after it.
+pub fn read_record(recording: &[u8], at: usize) -> Standing {
+    let (start, bytes) = (recording.as_ptr(), recording.len());
+    // SAFETY: as above, and the bytes are only read.
+    let (code, after) = unsafe {
+        (
+            raw::kt11c_event_at(start, bytes, at),
+            raw::kt11c_place_after(start, bytes, at),
+        )
+    };
+    Standing {
+        here: decode_found(code),
+        after,
     }
 }

@@ -133,7 +133,7 @@ fn opening(random: &mut Random) -> Vec<Event> {
 }
 
 /// One damage to bytes that are not empty.
-fn damage(random: &mut Random, bytes: &mut Vec<u8>) {
+pub fn damage(random: &mut Random, bytes: &mut Vec<u8>) {
     let at = random.below(bytes.len() as u32) as usize;
     match random.below(5) {
         0 => bytes.truncate(at),
