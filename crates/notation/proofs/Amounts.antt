@@ -1,44 +1,42 @@
--- An amount: a number within its limit as a signed one, and the sign that picks it.
+-- A number within an amount's limit as a signed one: as it is, and less than none by it.
 use mathlib.Core.Path.{_≡_, refl, ap}
-use mathlib.Core.Bool.{cond}
-use mathlib.Core.List.{[], _∷_}
-use Prim.Native.Nat.{ℕ, zero, suc, _<_, _≤_}
+use Prim.Native.Nat.{ℕ, zero, suc, _≤_}
 use native.Mathlib.Omega.{arith}
-use lib.ListN.{length, drop, getD}
-use lib.Dec.{eqb}
 use lib.IntN.{pos, negsuc, _-ℤ_}
 use mir.Syntax.{w32}
-use mir.Val.{SFits, toZ}
+use mir.Val.{SFits, toZ, ofZ}
 use mir.ValLaws.{toZ-ofZ}
 use borrow.Author.Tests.{lt-ltb}
 use Rattle.lines.specs.Lines.{Text}
-use Rattle.notation.specs.Fields.{octalUpTo, minus, plus, less, amountOf}
-use Rattle.notation.specs.declared.Amount.the-variants.{None}
+use Rattle.notation.specs.Fields.{octalUpTo, minus, plus, less}
+use Rattle.notation.specs.declared.Number.{Number}
+use Rattle.notation.specs.declared.Number.the-variants.{Is}
+use Rattle.notation.specs.declared.Amount.the-variants.{By}
+use Rattle.notation.proofs.Octals.{within}
 
-module _ (n : ℕ) (h : n ≤ 128) where
-  pub fits-plus : SFits w32 (pos n)
-  fits-plus = record { sfits = omega arith }
-
-  pub plain : toZ w32 n ≡ pos n
-  plain = toZ-ofZ w32 (pos n) fits-plus
-
-pub negated : (n : ℕ) → pos 0 -ℤ pos n ≡ minus n
+negated : (n : ℕ) → pos 0 -ℤ pos n ≡ minus n
 negated zero = refl
 negated (suc n) = rw (lt-ltb 0 (suc n) (omega arith)) (ap negsuc (omega arith))
 
-pub fits-minus : (n : ℕ) → n ≤ 128 → SFits w32 (minus n)
+fits-minus : (n : ℕ) → n ≤ 128 → SFits w32 (minus n)
 fits-minus zero h = record { sfits = omega arith }
 fits-minus (suc n) h = record { sfits = omega arith }
 
-pub no-amount : (w : Text) → length w ≡ 0 → None ≡ amountOf w
-unfolding amountOf
-no-amount [] e = refl
-no-amount (c ∷ t) e = absurd (omega arith)
+module _ (most n : ℕ) (w : Text) (x : Number) (read : x ≡ octalUpTo most w) (is : x ≡ Is n) (small : most ≤ 128) where
+  at-most : n ≤ 128
+  at-most = omega (arith, within most n w x read is)
 
-pub by-sign : (w : Text) → (length w ≡ 0 → ⊥)
-    → amountOf w
-    ≡ cond (eqb (getD w 0 0) 45) (less (octalUpTo 0o200 (drop 1 w)))
-    (cond (eqb (getD w 0 0) 43) (plus (octalUpTo 0o177 (drop 1 w))) (plus (octalUpTo 0o177 w)))
-unfolding amountOf
-by-sign [] h = absurd (h refl)
-by-sign (c ∷ t) h = refl
+  pub fits : SFits w32 (pos n)
+  fits = record { sfits = omega (arith, at-most) }
+
+  plain : toZ w32 n ≡ pos n
+  plain = toZ-ofZ w32 (pos n) fits
+
+  pub added : By (toZ w32 n) ≡ plus (octalUpTo most w)
+  added = rw (← read, is, plain)
+
+  pub fits-less : SFits w32 (pos 0 -ℤ toZ w32 n)
+  fits-less = rw (plain, negated n) (fits-minus n at-most)
+
+  pub taken : By (toZ w32 (ofZ w32 (pos 0 -ℤ toZ w32 n))) ≡ less (octalUpTo most w)
+  taken = rw (← read, is, plain, negated n) (ap By (toZ-ofZ w32 (minus n) (fits-minus n at-most)))

@@ -1,8 +1,10 @@
 pub mod Examples
 pub mod Parts
 pub mod Runs
+pub mod Emptiness
 pub mod Spelling
+pub mod Naming
 pub mod Octals
 pub mod Amounts
+pub mod Signs
 pub mod Steps
-pub mod Naming

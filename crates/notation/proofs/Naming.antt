@@ -11,7 +11,7 @@ use Rattle.notation.specs.Fields.{placeOr}
 use Rattle.notation.specs.declared.Number.{Number}
 use Rattle.notation.specs.declared.Number.the-variants.{Is}
 use Rattle.notation.proofs.Runs.{run-length}
-use Rattle.notation.proofs.Steps.{no-word, a-word}
+use Rattle.notation.proofs.Emptiness.{no-word, a-word}
 
 pub shorter : (t x rest : Text) → x ≡ firstWord t → (length x ≡ 0 → ⊥) → rest ≡ afterWord t → length rest < length t
 shorter t x rest word some after-it =

@@ -68,6 +68,6 @@ limit most n (Is m) e = of (leb m most) refl e
     of true h e = let k : m ≡ n = cc in omega (arith, leb-true m most h)
     of false h e = let z : _≡_ {A = ℕ} 0 1 = cc in absurd (omega arith)
 
-pub within : (most n : ℕ) (w : Text) → octalUpTo most w ≡ Is n → n ≤ most
+pub within : (most n : ℕ) (w : Text) (x : Number) → x ≡ octalUpTo most w → x ≡ Is n → n ≤ most
 unfolding octalUpTo
-within most n w e = limit most n (octalOf w) e
+within most n w x read is = limit most n (octalOf w) (sym read ∙ is)

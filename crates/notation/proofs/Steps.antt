@@ -1,13 +1,10 @@
--- One step along a line: the first word is its field's number and the rest is read on, or the field is missing; and whether a word is left.
-use mathlib.Core.Path.{_≡_, refl, sym, _∙_}
-use mathlib.Core.Bool.{true, false}
-use mathlib.Core.List.{[], _∷_}
+-- One step along a line: the first word is its field's number and the rest is read on, or the field is missing.
+use mathlib.Core.Path.{_≡_}
+use mathlib.Core.List.{[]}
 use Prim.Native.Nat.{ℕ, _≤_}
-use native.Mathlib.Omega.{arith}
-use lib.ListN.{length}
 use lib.IntN.{ℤ}
 use Rattle.lines.specs.Lines.{Text}
-use Rattle.notation.specs.Words.{firstWord, afterWord, empty}
+use Rattle.notation.specs.Words.{firstWord, afterWord}
 use Rattle.notation.specs.Fields.{wordsOf, mostOf, placeOr, numberOf, amountOf}
 use Rattle.notation.specs.Lines.{field, amount}
 use Rattle.notation.specs.declared.Field.{Field}
@@ -32,7 +29,7 @@ module _ (f : Field) (t : Text) (x : Number) (read : x ≡ numberOf f (firstWord
   -- a field without words holds no number above its limit
   pub limited : (n : ℕ) → x ≡ Is n → wordsOf f ≡ [] → n ≤ mostOf f
   unfolding numberOf placeOr
-  limited n e none = within (mostOf f) n (firstWord t) (rw none at (sym read ∙ e))
+  limited n e none = within (mostOf f) n (firstWord t) x (rw none at read) e
 
 module _ (t w : Text) (word : w ≡ firstWord t) (x : Amount) (read : x ≡ amountOf w) where
   pub amount-found : (next : ℤ → Text → Line) (z : ℤ) (rest : Text) (l : Line) → x ≡ By z → rest ≡ afterWord t → l ≡ next z rest → l ≡ amount t next
@@ -42,11 +39,3 @@ module _ (t w : Text) (word : w ≡ firstWord t) (x : Amount) (read : x ≡ amou
   pub amount-missing : (next : ℤ → Text → Line) → x ≡ NoAmount → Bad AnAmount ≡ amount t next
   unfolding amount
   amount-missing next e = rw (← word, ← read, e)
-
-pub no-word : (w : Text) → length w ≡ 0 → empty w ≡ true
-no-word [] e = refl
-no-word (c ∷ t) e = absurd (omega arith)
-
-pub a-word : (w : Text) → (length w ≡ 0 → ⊥) → empty w ≡ false
-a-word [] h = absurd (h refl)
-a-word (c ∷ t) h = refl

@@ -1,13 +1,12 @@
 -- Lines as they are written, and what each says.
-use Prim.Native.Nat.{ℕ}
 use mathlib.Core.Path.{_≡_}
 use mathlib.Core.List.{List, [], _∷_, map}
-use lib.IntN.{ℤ, pos, negsuc}
+use lib.IntN.{pos, negsuc}
 use Rattle.rules.specs.declared.Event.the-variants.{Refer, Read, Write, Instruction, Interrupt, Change, Init}
 use Rattle.lines.specs.Chars.{chars}
 use Rattle.lines.specs.Lines.{Text}
 use Rattle.notation.specs.Lines.{lineOf}
-use Rattle.notation.specs.declared.Field.the-variants.{Mode, Phase, Va, Value, Address, Register, Byte as AByte}
+use Rattle.notation.specs.declared.Field.the-variants.{Mode, Phase, Value, Address, Register, Byte as AByte}
 use Rattle.notation.specs.declared.Expected.the-variants.{Name, Field as AField, Amount as AnAmount, End}
 use Rattle.notation.specs.declared.Line.{Line}
 use Rattle.notation.specs.declared.Line.the-variants.{Blank, Event as AnEvent, Byte, Bad}

@@ -7,28 +7,12 @@ use crate::words;
 ghost use mathlib.Core.Path.{_≡_};
 ghost use Prim.Native.Nat.{_≤_};
 ghost use lib.ListN.{length};
-ghost use Rattle.notation.specs.Words.{same, wordsIn};
+ghost use Rattle.notation.specs.Words.{wordsIn};
 ghost use Rattle.notation.specs.Fields.{octalUpTo, placeOr, numberOf, plus, less, amountOf};
 ghost use Rattle.notation.specs.Lines.{names};
 ghost use Rattle.notation.specs.declared.Number.the-variants.{None};
 
-fn same(a: &[u8], b: &[u8]) -> bool
-    ensures { λ r. ⌜ r ≡ same (now (a .entry)) (now (b .entry)) ⌝ }
-{
-    if a.len() != b.len() {
-        return false;
-    }
-    let mut i = 0;
-    while i < a.len() {
-        if a[i] != b[i] {
-            return false;
-        }
-        i += 1;
-    }
-    true
-}
-
-// the place of a word among names parted by blanks, or else another number
+// the place of a word among names parted by blanks, from 0 on, or else another number
 fn place(word: &[u8], names: &[u8], other: Number) -> Number
     requires { ⌜ length (now names) ≤ 100 ⌝ }
     ensures { λ r. ⌜ r ≡ placeOr other (now (word .entry)) 0 (wordsIn (now (names .entry))) ⌝ }
@@ -40,7 +24,7 @@ fn place(word: &[u8], names: &[u8], other: Number) -> Number
         if name.len() == 0 {
             return other;
         }
-        if same(word, name) {
+        if words::same(word, name) {
             return Number::Is(n);
         }
         let next = words::after_word(left);
@@ -60,7 +44,7 @@ pub(crate) fn name(word: &[u8]) -> Number
     )
 }
 
-// a number in octal digits, at most so large
+// a number in octal digits, one or more, and at most so large
 fn octal(word: &[u8], most: u32) -> Number
     requires { ⌜ most ≤ 0o77777777 ⌝ }
     ensures { λ r. ⌜ r ≡ octalUpTo most (now (word .entry)) ⌝ }
@@ -72,10 +56,7 @@ fn octal(word: &[u8], most: u32) -> Number
     let mut i = 0;
     while i < word.len() {
         let c = word[i];
-        if c < b'0' {
-            return Number::None;
-        }
-        if b'7' < c {
+        if c < b'0' || b'7' < c {
             return Number::None;
         }
         n = 8 * n + (c - b'0') as u32;
@@ -87,6 +68,7 @@ fn octal(word: &[u8], most: u32) -> Number
     Number::Is(n)
 }
 
+// by the field's words, or as a number up to its limit
 pub(crate) fn number(word: &[u8], f: Field) -> Number
     ensures { λ r. ⌜ r ≡ numberOf f (now (word .entry)) ⌝ }
 {
@@ -104,6 +86,7 @@ pub(crate) fn number(word: &[u8], f: Field) -> Number
     }
 }
 
+// a number to 177 as an amount
 fn plus(digits: &[u8]) -> Amount
     ensures { λ r. ⌜ r ≡ plus (octalUpTo 0o177 (now (digits .entry))) ⌝ }
 {
@@ -113,6 +96,7 @@ fn plus(digits: &[u8]) -> Amount
     }
 }
 
+// a number to 200 as an amount below 0
 fn less(digits: &[u8]) -> Amount
     ensures { λ r. ⌜ r ≡ less (octalUpTo 0o200 (now (digits .entry))) ⌝ }
 {
@@ -122,6 +106,7 @@ fn less(digits: &[u8]) -> Amount
     }
 }
 
+// by its sign, if it has one
 pub(crate) fn amount(word: &[u8]) -> Amount
     ensures { λ r. ⌜ r ≡ amountOf (now (word .entry)) ⌝ }
 {

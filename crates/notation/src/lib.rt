@@ -57,7 +57,7 @@ pub enum Amount {
     None,
 }
 
-// What a line says, without its line feed.
+// What a line says. It is given without its line feed.
 pub fn read_line(line: &[u8]) -> Line
     ensures { λ r. ⌜ r ≡ lineOf (now (line .entry)) ⌝ }
 {
@@ -71,7 +71,7 @@ pub fn read_line(line: &[u8]) -> Line
     }
 }
 
-// The place of the first line feed from a place on: the text's end where there is none.
+// The place of the first line feed from a place on, or else the text's end; a place beyond the text as it is.
 pub fn line_end(text: &[u8], from: usize) -> usize
     ensures { λ r. ⌜ r ≡ from + length (before notFeed (drop from (now (text .entry)))) ⌝ }
 {

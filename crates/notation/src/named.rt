@@ -1,4 +1,4 @@
-// What a line says after its name.
+// What a line says, by its name and the text after it.
 
 use crate::Amount;
 use crate::Expected;
@@ -138,7 +138,7 @@ fn byte(t: &[u8]) -> Line
     ending(Line::Byte(b as u8), words::after_word(t))
 }
 
-// by the name's place, and the text after the name
+// the names by their places
 pub(crate) fn line(place: u32, t: &[u8]) -> Line
     ensures { λ r. ⌜ r ≡ namedLine place (now (t .entry)) ⌝ }
 {

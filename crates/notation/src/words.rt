@@ -1,9 +1,9 @@
-// A text's words, as parts of the lent text.
+// The words of a text, as parts of it.
 
 ghost use mathlib.Core.Path.{_≡_};
 ghost use Prim.Native.Nat.{_≤_};
 ghost use lib.ListN.{length};
-ghost use Rattle.notation.specs.Words.{blank, before, after, firstWord, afterWord};
+ghost use Rattle.notation.specs.Words.{blank, before, after, firstWord, afterWord, same};
 ghost use Rattle.notation.specs.Classes.{testOf};
 
 // What a run of characters is made of.
@@ -40,6 +40,7 @@ pub(crate) fn run(t: &[u8], class: Class) -> usize
     n
 }
 
+// what follows that run
 fn after(t: &[u8], class: Class) -> &[u8]
     ensures { λ r. ⌜ now r ≡ after (testOf class) (now (t .entry)) ⌝ }
 {
@@ -47,6 +48,7 @@ fn after(t: &[u8], class: Class) -> &[u8]
     &t[n..]
 }
 
+// the first word of a text, empty where it has none
 pub(crate) fn first_word(t: &[u8]) -> &[u8]
     ensures { λ r. ⌜ now r ≡ firstWord (now (t .entry)) ⌝ }
 {
@@ -55,8 +57,26 @@ pub(crate) fn first_word(t: &[u8]) -> &[u8]
     &word[..n]
 }
 
+// what follows it
 pub(crate) fn after_word(t: &[u8]) -> &[u8]
     ensures { λ r. ⌜ now r ≡ afterWord (now (t .entry)) ⌝ }
 {
     after(after(t, Class::Blanks), Class::Word)
+}
+
+// whether two words are the same
+pub(crate) fn same(a: &[u8], b: &[u8]) -> bool
+    ensures { λ r. ⌜ r ≡ same (now (a .entry)) (now (b .entry)) ⌝ }
+{
+    if a.len() != b.len() {
+        return false;
+    }
+    let mut i = 0;
+    while i < a.len() {
+        if a[i] != b[i] {
+            return false;
+        }
+        i += 1;
+    }
+    true
 }

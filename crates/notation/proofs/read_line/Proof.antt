@@ -2,7 +2,7 @@
 use mathlib.Core.Path.{sym, _∙_}
 use borrow.Author.Needs.{needs}
 use Rattle.notation.specs.Lines.{lineOf}
-use Rattle.notation.proofs.Steps.{no-word, a-word}
+use Rattle.notation.proofs.Emptiness.{no-word, a-word}
 use Rattle.notation.proofs.read_line.Statement.{statement}
 use Rattle.notation.proofs.read_line.Tie as tie
 

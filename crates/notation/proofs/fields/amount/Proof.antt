@@ -2,7 +2,7 @@
 use borrow.Author.Needs.{needs}
 use borrow.Author.Tests.{eq-eqb, ne-eqb}
 use Rattle.notation.proofs.Parts.{from-on}
-use Rattle.notation.proofs.Amounts.{no-amount, by-sign}
+use Rattle.notation.proofs.Signs.{no-amount, by-sign}
 use Rattle.notation.proofs.fields.amount.Statement.{statement}
 use Rattle.notation.proofs.fields.amount.Tie as tie
 

@@ -35,11 +35,12 @@ loop-again : tie.Need-loop-again Inv-loop μ-loop
 loop-again c =
     let at-if1 = c .before .before .before in
     let word = at-if1 .before .first-word .ensures in
-    let rest = c .after-word .ensures in
-    (omega (arith, shorter _ _ _ word (at-if1 .if1 .left) rest),
-     rw sub-add-eq
-     (further _ _ _ _ _ _ (at-if1 .before .before .loop .inv .1) _ word (at-if1 .if1 .left) (omega arith) _ rest
-     (sym (c .before .before .same .ensures) ∙ c .before .if2 .left)))
+    let rest = c .after-word .ensures in (
+      omega (arith, shorter _ _ _ word (at-if1 .if1 .left) rest),
+      rw sub-add-eq
+          (further _ _ _ _ _ _ (at-if1 .before .before .loop .inv .1) _ word (at-if1 .if1 .left) (omega arith) _ rest
+          (sym (c .before .before .same .ensures) ∙ c .before .if2 .left)),
+    )
 
 pub place-spec : {M : Type 1} → statement M
 place-spec =

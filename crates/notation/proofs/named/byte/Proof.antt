@@ -6,14 +6,8 @@ use Rattle.notation.proofs.Steps.{found, missing, limited}
 use Rattle.notation.proofs.named.byte.Statement.{statement}
 use Rattle.notation.proofs.named.byte.Tie as tie
 
-returns : tie.Need-returns
-returns c = search missing
-
 cast-t7 : tie.Need-cast-t7
 cast-t7 c = omega (arith, limited _ _ _ (c .before .before .before .field .ensures) _ (c .before .b .given .1) refl)
-
-returns-2 : tie.Need-returns-2
-returns-2 c = search found
 
 pub byte-spec : {M : Type 1} → statement M
 byte-spec =
@@ -22,8 +16,8 @@ byte-spec =
     (λ c κs. search needs)
     (λ c. search needs)
     (λ c. search needs)
-    returns
+    (λ c. search missing)
     cast-t7
     (λ c κs. search needs)
     (λ c κs. search needs)
-    returns-2)
+    (λ c. search found))

@@ -8,14 +8,6 @@ use Rattle.notation.proofs.Steps.{found, missing, amount-found, amount-
 use Rattle.notation.proofs.named.change.Statement.{statement}
 use Rattle.notation.proofs.named.change.Tie as tie
 
-returns : tie.Need-returns
-unfolding changeLine
-returns c = search missing
-
-returns-2 : tie.Need-returns-2
-unfolding changeLine
-returns-2 c = search (found, amount-missing)
-
 returns-3 : tie.Need-returns-3
 unfolding changeLine
 returns-3 c =
@@ -24,19 +16,20 @@ returns-3 c =
     search (found, amount-found, rw same at (c .ending .ensures))
 
 pub change-spec : {M : Type 1} → statement M
+unfolding changeLine
 change-spec =
     tie.close
     (tie.spec
     (λ c κs. search needs)
     (λ c. search needs)
     (λ c. search needs)
-    returns
+    (λ c. search missing)
     (λ c κs. search needs)
     (λ c κs. search needs)
     (λ c κs. search needs)
     (λ c. search needs)
     (λ c. search needs)
-    returns-2
+    (λ c. search (found, amount-missing))
     (λ c κs. search needs)
     (λ c κs. search needs)
     returns-3)

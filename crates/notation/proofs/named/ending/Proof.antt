@@ -1,6 +1,6 @@
 -- Whether a word is left picks what the line says.
 use borrow.Author.Needs.{needs}
-use Rattle.notation.proofs.Steps.{no-word, a-word}
+use Rattle.notation.proofs.Emptiness.{no-word, a-word}
 use Rattle.notation.proofs.named.ending.Statement.{statement}
 use Rattle.notation.proofs.named.ending.Tie as tie
 

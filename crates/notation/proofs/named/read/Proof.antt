@@ -4,12 +4,6 @@ use Rattle.notation.proofs.Steps.{found, missing}
 use Rattle.notation.proofs.named.read.Statement.{statement}
 use Rattle.notation.proofs.named.read.Tie as tie
 
-returns : tie.Need-returns
-returns c = search missing
-
-returns-2 : tie.Need-returns-2
-returns-2 c = search found
-
 pub read-spec : {M : Type 1} → statement M
 read-spec =
     tie.close
@@ -17,7 +11,7 @@ read-spec =
     (λ c κs. search needs)
     (λ c. search needs)
     (λ c. search needs)
-    returns
+    (λ c. search missing)
     (λ c κs. search needs)
     (λ c κs. search needs)
-    returns-2)
+    (λ c. search found))

@@ -3,15 +3,6 @@ use borrow.Author.Needs.{needs}
 use Rattle.notation.proofs.words.passes.Statement.{statement}
 use Rattle.notation.proofs.words.passes.Tie as tie
 
-returns : tie.Need-returns
-returns c = rw (c .before .enum-told .given .1) (c .blank .ensures)
-
-returns-2 : tie.Need-returns-2
-returns-2 c = rw (c .before .enum-told2 .given .1, c .blank2 .ensures)
-
-returns-3 : tie.Need-returns-3
-returns-3 c = rw (c .enum-told3 .given .1)
-
 pub passes-spec : {M : Type 1} → statement M
 passes-spec =
     tie.close
@@ -21,6 +12,6 @@ passes-spec =
     (λ c. search needs)
     (λ c κs. search needs)
     (λ c. search needs)
-    returns
-    returns-2
-    returns-3)
+    (λ c. rw (c .before .enum-told .given .1) (c .blank .ensures))
+    (λ c. rw (c .before .enum-told2 .given .1, c .blank2 .ensures))
+    (λ c. rw (c .enum-told3 .given .1)))

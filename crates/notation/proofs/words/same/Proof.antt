@@ -6,8 +6,8 @@ use lib.ListN.{length, drop}
 use borrow.Author.Needs.{needs}
 use Rattle.notation.specs.Words.{same}
 use Rattle.notation.proofs.Spelling.{unequal, agree, differ, compared}
-use Rattle.notation.proofs.fields.same.Statement.{statement}
-use Rattle.notation.proofs.fields.same.Tie as tie
+use Rattle.notation.proofs.words.same.Statement.{statement}
+use Rattle.notation.proofs.words.same.Tie as tie
 
 abbrev Inv-loop : tie.InvT-loop
 Inv-loop a b i₀ i = (i ≤ length a) × (same a b ≡ same (drop i a) (drop i b))
