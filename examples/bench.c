@@ -19,14 +19,14 @@ static void recorded(uint32_t answer)
 static void print(uint64_t event)
 {
     switch (KT11C_RECORD_KIND(event)) {
-    case 1:
+    case KT11C_REFERENCE:
         printf("reference %o %o %o %o %06o\n", (unsigned)KT11C_EVENT_MODE(event), (unsigned)KT11C_EVENT_SPACE(event),
                (unsigned)KT11C_EVENT_ACCESS(event), (unsigned)KT11C_EVENT_PHASE(event), (unsigned)KT11C_EVENT_WORD(event));
         break;
-    case 2:
+    case KT11C_READ:
         printf("read %06o\n", (unsigned)KT11C_EVENT_ADDRESS(event));
         break;
-    case 3:
+    case KT11C_WRITE:
         printf("write %06o %06o\n", (unsigned)KT11C_EVENT_ADDRESS(event), (unsigned)KT11C_EVENT_WORD(event));
         break;
     default:

@@ -124,12 +124,21 @@ uint32_t kt11c_record_init(uint8_t *buffer, size_t room, size_t used);
  *     5  refused   bits 3:0 are the number: 11 unknown record kind, 12 record cut short
  *     7  an event  bits 59:56 are its kind, as in a record: 1 reference, 2 register read, 3 register write,
  *                  4 instruction start, 5 interrupt start, 6 change noted, 7 INIT; below them are its fields
- * kt11c_place_after answers the place past the record at `at`, and the same place where no whole record stands. */
+ * KT11C_FOUND tells which (KT11C_KIND is for the 32-bit answers), KT11C_NUMBER a refusal's number.
+ * kt11c_place_after answers the place past the record at `at`, and the same place where no whole record stands.
+ * The caller owes the same for `recording`, which is only read, as above for `store`. */
 #define KT11C_FOUND(event) ((unsigned)((event) >> 60))
 #define KT11C_END 0u
 #define KT11C_EVENT 7u
 
 #define KT11C_RECORD_KIND(event) ((unsigned)((event) >> 56) & 0xfu)
+#define KT11C_REFERENCE 1u
+#define KT11C_READ 2u
+#define KT11C_WRITE 3u
+#define KT11C_INSTRUCTION 4u
+#define KT11C_INTERRUPT 5u
+#define KT11C_CHANGE 6u
+#define KT11C_INIT 7u
 #define KT11C_EVENT_MODE(event) ((uint32_t)(event) & 0xffu)            /* kind 1 */
 #define KT11C_EVENT_SPACE(event) ((uint32_t)((event) >> 8) & 0xffu)    /* kind 1 */
 #define KT11C_EVENT_ACCESS(event) ((uint32_t)((event) >> 16) & 0xffu)  /* kind 1 */

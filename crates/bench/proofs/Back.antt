@@ -1,16 +1,13 @@
 -- An event whose fields fit is read back from its code: each field stands in bits of its own.
 use mathlib.Core.Path.{_≡_, refl, ap}
-use mathlib.Core.Bool.{Bool, true, false, cond, not, _||_}
-use Prim.Native.Nat.{ℕ, suc, _+_, _*_, _-_, _/_, _%_, _≤_, _<_}
+use mathlib.Core.Bool.{true}
+use Prim.Native.Nat.{ℕ, _+_, _*_, _-_, _/_, _%_, _<_}
 use native.Mathlib.Omega.{arith}
-use lib.Dec.{ltb, eqb}
 use lib.IntN.{ℤ, pos, negsuc}
-use borrow.Author.Tests.{ltb-false, ltb-true, lt-ltb, le-ltb, eq-eqb}
-use Rattle.rules.proofs.Bools.{or-l}
-use Rattle.rules.specs.declared.Event.{Event}
+use borrow.Author.Tests.{ltb-true, lt-ltb, le-ltb}
 use Rattle.rules.specs.declared.Event.the-variants.{Refer, Read, Write, Instruction, Interrupt, Change, Init}
 use Rattle.writer.specs.Writing.{inByte}
-use Rattle.writer.proofs.Judged.{passed, neither}
+use Rattle.writer.proofs.Fields.{reference-fits, address-fits, change-fits}
 use Rattle.bench.specs.Codes.{excess, unexcess, eventOf, eventCode, CodeReadBack}
 
 unexcess-back : (z : ℤ) → inByte z ≡ true → (unexcess (excess z) ≡ z) × (excess z < 256)
@@ -21,24 +18,14 @@ unexcess-back (negsuc n) h =
     let k = ltb-true n 128 h in
     (rw (lt-ltb (127 - n) 128 (omega arith)) (ap negsuc (omega arith)), omega arith)
 
-small : (x n rest : ℕ) → _≡_ {A = ℕ} (cond (ltb 255 x) (suc n) rest) 0 → x < 256
-small x n rest h = let k = ltb-false 255 x (passed (ltb 255 x) n rest h .0) in omega arith
-
-narrow : (x : ℕ) → _≡_ {A = ℕ} (cond (ltb 0o77777777 x) 6 0) 0 → x < 0x1000000
-narrow x h = let k = ltb-false 0o77777777 x (passed (ltb 0o77777777 x) 5 0 h .0) in omega arith
-
 pub codeReadBack : CodeReadBack
 unfolding eventOf eventCode
 codeReadBack (Refer r) f h =
-    let c-phase : ℕ = cond (ltb 255 (r .phase)) 5 0 in
-    let c-access : ℕ = cond (ltb 255 (r .access)) 4 c-phase in
-    let c-space : ℕ = cond (ltb 255 (r .space)) 3 c-access in
-    let f-space = passed (ltb 255 (r .mode)) 1 c-space f .1 in
-    let f-access = passed (ltb 255 (r .space)) 2 c-access f-space .1 in
-    let m = small (r .mode) 1 c-space f in
-    let s = small (r .space) 2 c-access f-space in
-    let a = small (r .access) 3 c-phase f-access in
-    let p = small (r .phase) 4 0 (passed (ltb 255 (r .access)) 3 c-phase f-access .1) in
+    let b = reference-fits r f in
+    let m = b .mode in
+    let s = b .space in
+    let a = b .access in
+    let p = b .phase in
     let n : ℕ = 0x7100000000000000 + (r .va * 0x100000000 + r .phase * 0x1000000 + r .access * 0x10000 + r .space * 0x100 + r .mode) in
     let n₁ : n / 0x100 ≡ 0x71000000000000 + (r .va * 0x1000000 + r .phase * 0x10000 + r .access * 0x100 + r .space) = omega arith in
     let n₂ : n / 0x10000 ≡ 0x710000000000 + (r .va * 0x10000 + r .phase * 0x100 + r .access) = omega arith in
@@ -52,13 +39,13 @@ codeReadBack (Refer r) f h =
     let va : (0x71000000 + r .va) % 0x10000 ≡ r .va = omega arith in
     rw (kind, mode, n₁, n₂, n₃, n₄, space, access, phase, va)
 codeReadBack (Read address) f h =
-    let a = narrow address f in
+    let a = address-fits address f in
     let n : ℕ = 0x7200000000000000 + address in
     let kind : n / 0x100000000000000 % 16 ≡ 2 = omega arith in
     let low : n % 0x1000000 ≡ address = omega arith in
     rw (kind, low)
 codeReadBack (Write address value) f h =
-    let a = narrow address f in
+    let a = address-fits address f in
     let n : ℕ = 0x7300000000000000 + (value * 0x100000000 + address) in
     let kind : n / 0x100000000000000 ≡ 0x73 = omega arith in
     let low : n % 0x1000000 ≡ address = omega arith in
@@ -76,9 +63,9 @@ codeReadBack (Interrupt vector) f h =
     let word : n / 0x100000000 % 0x10000 ≡ vector = omega arith in
     rw (kind, word)
 codeReadBack (Change register amount) f h =
-    let good = passed (ltb 255 register || not (inByte amount)) 8 0 f .0 in
-    let r = ltb-false 255 register (or-l (ltb 255 register) (not (inByte amount)) good) in
-    let back = unexcess-back amount (neither (ltb 255 register) (inByte amount) good) in
+    let b = change-fits register amount f in
+    let r = b .0 in
+    let back = unexcess-back amount (b .1) in
     let e = back .1 in
     let n : ℕ = 0x7600000000000000 + (register * 0x100 + excess amount) in
     let kind : n / 0x100000000000000 ≡ 0x76 = omega arith in

@@ -32,8 +32,8 @@ abbrev pub excess : ℤ → ℕ
 excess (pos n) = 128 + n
 excess (negsuc n) = 127 - n
 
--- an event's fields: VA, value or vector in bits 47:32; below them mode, space, access and phase in a byte each, an address in
--- bits 23:0, or a register in bits 15:8 and above the amount
+-- an event's fields: VA, value or vector in bits 47:32; of a reference phase, access, space and mode in a byte each below; an
+-- address in bits 23:0; a register in bits 15:8, and the amount with 128 added in bits 7:0
 abbrev pub fields : Event → ℕ
 fields (Refer r) = r .va * 0x100000000 + r .phase * 0x1000000 + r .access * 0x10000 + r .space * 0x100 + r .mode
 fields (Read address) = address

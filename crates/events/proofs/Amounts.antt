@@ -1,7 +1,7 @@
 -- An amount in range: what the code tests of it, and its two's complement in five bits.
 use mathlib.Core.Path.{_≡_, refl, ap, _∙_, sym}
 use mathlib.Core.Bool.{Bool, true, false, not, _&&_, and-comm, and-true}
-use Prim.Native.Nat.{ℕ, suc, _-_, _<_, _^_}
+use Prim.Native.Nat.{suc, _-_, _<_, _^_}
 use native.Mathlib.Omega.{arith}
 use lib.Dec.{ltb, leb, eqb, leb·suc-suc}
 use lib.IntN.{ℤ, pos, negsuc}

@@ -4,7 +4,6 @@ use mathlib.Core.Bool.{cond}
 use mathlib.Core.List.{List, [], _∷_}
 use lib.Dec.{eqb}
 use lib.IntN.{ℤ}
-use Rattle.rules.specs.declared.Event.{Event}
 use Rattle.rules.specs.declared.Event.the-variants.{Refer, Read, Write, Instruction, Interrupt, Change, Init}
 use Rattle.lines.specs.Chars.{chars}
 use Rattle.lines.specs.Lines.{Text}
@@ -71,7 +70,7 @@ writeLine t = field Address t (λ address t₁. field Value t₁ (λ value t₂.
 unfoldable pub changeLine : Text → Line
 changeLine t = field Register t (λ register t₁. amount t₁ (λ z t₂. ending (AnEvent (Change register z)) t₂))
 
--- by the name's place, and the text after the name
+-- by the name's place in `names`, and the text after the name: reference, read, write, instruction, interrupt, change, init, byte
 unfoldable pub namedLine : ℕ → Text → Line
 namedLine k t =
     cond (eqb k 0) (referenceLine t)

@@ -13,11 +13,20 @@ ghost use lib.ListN.{length};
 
 // Where a run stands.
 struct Run {
-    // In the text: its bytes that are not recorded yet, or the place of the first of them.
-    at: usize,
+    // Bytes at the start of the text that are read and not yet recorded.
+    have: usize,
     // Bytes of the output that are used.
     used: usize,
     // The number of the line that comes next, from 1.
+    line: u64,
+    over: bool,
+}
+
+// What became of a text's lines.
+struct Lines {
+    // The place of the first byte that is not recorded.
+    at: usize,
+    used: usize,
     line: u64,
     over: bool,
 }
@@ -53,7 +62,7 @@ fn flush(out: &[u8], used: usize) -> bool
 }
 
 // every line that has its line feed; a full output is written, and the line taken again
-fn record_lines(text: &[u8], out: &mut [u8], used: usize, line: u64) -> Run
+fn record_lines(text: &[u8], out: &mut [u8], used: usize, line: u64) -> Lines
     requires { ⌜ (7 ≤ length (now out)) × (used ≤ length (now out)) ⌝ }
     ensures { λ r. ⌜ (r .at ≤ length (now (text .entry))) × (r .used ≤ length (now (out .entry))) ⌝ }
 {
@@ -80,7 +89,7 @@ fn record_lines(text: &[u8], out: &mut [u8], used: usize, line: u64) -> Run
             }
         }
     }
-    Run {
+    Lines {
         at,
         used,
         line,
@@ -104,10 +113,10 @@ fn keep(text: &mut [u8], from: usize, have: usize) -> usize
 
 // a run that records nothing more
 fn over(used: usize, line: u64) -> Run
-    ensures { λ r. ⌜ (r .at ≡ 0) × (r .used ≡ used) ⌝ }
+    ensures { λ r. ⌜ (r .have ≡ 0) × (r .used ≡ used) ⌝ }
 {
     Run {
-        at: 0,
+        have: 0,
         used,
         line,
         over: true,
@@ -117,52 +126,52 @@ fn over(used: usize, line: u64) -> Run
 // the lines that end in the text's bytes, and what follows the last of them kept
 fn go_on(text: &mut [u8], have: usize, out: &mut [u8], used: usize, line: u64) -> Run
     requires { ⌜ (0 < length (now text)) × (have ≤ length (now text)) × (7 ≤ length (now out)) × (used ≤ length (now out)) ⌝ }
-    ensures { λ r. ⌜ (r .at < length (now (text .entry))) × (r .used ≤ length (now (out .entry))) ⌝ }
+    ensures { λ r. ⌜ (r .have < length (now (text .entry))) × (r .used ≤ length (now (out .entry))) ⌝ }
 {
-    let run = record_lines(&text[..have], out, used, line);
-    if run.over {
-        return over(run.used, run.line);
+    let lines = record_lines(&text[..have], out, used, line);
+    if lines.over {
+        return over(lines.used, lines.line);
     }
-    let left = keep(text, run.at, have);
+    let left = keep(text, lines.at, have);
     if left < text.len() {
         return Run {
-            at: left,
-            used: run.used,
-            line: run.line,
+            have: left,
+            used: lines.used,
+            line: lines.line,
             over: false,
         };
     }
-    complaint::long(run.line);
-    over(run.used, run.line)
+    complaint::long(lines.line);
+    over(lines.used, lines.line)
 }
 
 // the last line, which needs no line feed
 fn finish(text: &mut [u8], have: usize, out: &mut [u8], used: usize, line: u64) -> Run
     requires { ⌜ (have < length (now text)) × (7 ≤ length (now out)) × (used ≤ length (now out)) ⌝ }
-    ensures { λ r. ⌜ (r .at ≡ 0) × (r .used ≤ length (now (out .entry))) ⌝ }
+    ensures { λ r. ⌜ (r .have ≡ 0) × (r .used ≤ length (now (out .entry))) ⌝ }
 {
     text[have] = b'\n';
     let all = have + 1;
-    let run = record_lines(&text[..all], out, used, line);
-    over(run.used, run.line)
+    let lines = record_lines(&text[..all], out, used, line);
+    over(lines.used, lines.line)
 }
 
 // one read, and what it brings
 fn turn(text: &mut [u8], out: &mut [u8], run: Run) -> Run
-    requires { ⌜ (run .at < length (now text)) × (7 ≤ length (now out)) × (run .used ≤ length (now out)) ⌝ }
-    ensures { λ r. ⌜ (r .at < length (now (text .entry))) × (r .used ≤ length (now (out .entry))) ⌝ }
+    requires { ⌜ (run .have < length (now text)) × (7 ≤ length (now out)) × (run .used ≤ length (now out)) ⌝ }
+    ensures { λ r. ⌜ (r .have < length (now (text .entry))) × (r .used ≤ length (now (out .entry))) ⌝ }
 {
-    let at = run.at;
-    let input = read_at(text, at);
+    let have = run.have;
+    let input = read_at(text, have);
     if input.failed {
         os::fail(b"record: standard input");
         return over(run.used, run.line);
     }
     let count = input.count;
     if count == 0 {
-        return finish(text, at, out, run.used, run.line);
+        return finish(text, have, out, run.used, run.line);
     }
-    go_on(text, at + count, out, run.used, run.line)
+    go_on(text, have + count, out, run.used, run.line)
 }
 
 // A proved loop has to end, and nothing says that the input does: so the turns are counted down from a number that no run uses up.
@@ -170,7 +179,7 @@ fn record(text: &mut [u8], out: &mut [u8])
     requires { ⌜ (7 ≤ length (now out)) × (0 < length (now text)) ⌝ }
 {
     let mut run = Run {
-        at: 0,
+        have: 0,
         used: 0,
         line: 1,
         over: false,

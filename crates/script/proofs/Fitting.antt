@@ -1,19 +1,18 @@
 -- Each field of an event that a line says fits its bytes: a field's number is never above what it holds, and so on through the line.
 use mathlib.Core.Path.{_≡_, refl}
-use mathlib.Core.Bool.{Bool, true, false, cond, not, _||_}
+use mathlib.Core.Bool.{Bool, true, false, cond}
 use mathlib.Core.List.{List, [], _∷_}
-use Prim.Native.Nat.{ℕ, zero, suc, _+_, _≤_, _<_}
+use Prim.Native.Nat.{ℕ, zero, suc, _+_, _≤_}
 use native.Mathlib.Omega.{arith}
 use lib.ListN.{length}
-use lib.Dec.{leb, ltb, eqb}
-use lib.IntN.{ℤ, pos, negsuc}
+use lib.Dec.{leb, eqb}
+use lib.IntN.{ℤ}
 use borrow.Author.Tests.{le-ltb, lt-ltb, leb-true}
 use Rattle.rules.specs.Refusals.{lowest}
-use Rattle.rules.specs.declared.Event.the-variants.{Refer, Read, Write, Instruction, Interrupt, Change, Init}
 use Rattle.lines.specs.Lines.{Text}
 use Rattle.notation.specs.Words.{firstWord, afterWord, empty, same}
 use Rattle.notation.specs.Fields.{wordsOf, mostOf, octalOf, upTo, octalUpTo, placeOr, numberOf, minus, plus, less, amountOf}
-use Rattle.notation.specs.Lines.{names, given, givenAmount, field, amount, ending, single, referenceLine, writeLine, changeLine, namedLine, lineOf}
+use Rattle.notation.specs.Lines.{names, given, givenAmount, field, amount, ending, referenceLine, writeLine, changeLine, namedLine, lineOf}
 use Rattle.notation.specs.declared.Field.{Field}
 use Rattle.notation.specs.declared.Field.the-variants.{Mode, Space, Access, Phase, Va, Value, Vector, Address, Register, Byte as AByte}
 use Rattle.notation.specs.declared.Number.{Number}

@@ -15,7 +15,7 @@ use Rattle.writer.specs.Writing.{Used, X, unwritten, write}
 use Rattle.writer.proofs.Judged.{fitting}
 use Rattle.script.specs.Recording.{answered, writeByte, recorded, recordLine}
 use Rattle.script.specs.declared.Recorded.{Recorded}
-use Rattle.script.specs.declared.Recorded.the-variants.{Upto, Full, Bad}
+use Rattle.script.specs.declared.Recorded.the-variants.{Upto, Full}
 use Rattle.script.proofs.Claims.{onlyRoom}
 
 reaches : (l : Line) (out : List ℕ) (used next : ℕ) → recorded l out used .0 ≡ Upto next → used ≤ length out → next ≤ length out

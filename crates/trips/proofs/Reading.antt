@@ -1,15 +1,11 @@
 -- An event's record, wherever it stands, is read as the event: each field is read back from its bytes.
 use mathlib.Core.Path.{_≡_, refl, sym, ap, _∙_}
-use mathlib.Core.Bool.{Bool, true, false, cond, not, _||_}
-use mathlib.Core.List.{List, [], _∷_, _++_}
-use Prim.Native.Nat.{ℕ, suc, _+_, _-_, _%_, _<_}
+use mathlib.Core.Bool.{true}
+use mathlib.Core.List.{List, _++_}
+use Prim.Native.Nat.{ℕ, _+_, _-_, _%_, _<_, _≤_}
 use native.Mathlib.Omega.{arith}
 use lib.ListN.{length, getD, drop, length-append, length-drop}
 use lib.Seq.{getD-drop}
-use lib.Dec.{ltb}
-use lib.IntN.{ℤ}
-use borrow.Author.Tests.{ltb-false}
-use Rattle.rules.proofs.Bools.{or-l}
 use Rattle.rules.specs.Refusals.{lowest}
 use Rattle.rules.specs.declared.Event.{Event}
 use Rattle.rules.specs.declared.Event.the-variants.{Refer, Read, Write, Instruction, Interrupt, Change, Init}
@@ -19,48 +15,40 @@ use Rattle.records.specs.Records.{eventOf, recordAt}
 use Rattle.records.specs.declared.Found.the-variants.{Whole}
 use Rattle.records.proofs.Laws.{at-whole}
 use Rattle.writer.specs.Bytes.{recordOf}
-use Rattle.writer.specs.Writing.{inByte, large}
+use Rattle.writer.specs.Writing.{large}
 use Rattle.trips.specs.Trips.{Held}
-use Rattle.writer.proofs.Judged.{passed, neither}
+use Rattle.writer.proofs.Fields.{reference-fits, address-fits, change-fits}
 use Rattle.trips.proofs.Numbers.{joined, joined-back, signed-back}
 
 -- each field fits its bytes
 abbrev pub Fits : Event → Type 0
 Fits e = lowest (large e) ≡ 0
 
-one : (x n rest : ℕ) → _≡_ {A = ℕ} (cond (ltb 255 x) (suc n) rest) 0 → x % 256 ≡ x
-one x n rest h = let k = ltb-false 255 x (passed (ltb 255 x) n rest h .0) in omega arith
-
-one-or : (x : ℕ) (z : ℤ) → (ltb 255 x || not (inByte z)) ≡ false → x % 256 ≡ x
-one-or x z h = let k = ltb-false 255 x (or-l (ltb 255 x) (not (inByte z)) h) in omega arith
-
-plus-assoc : (a b c : ℕ) → a + (b + c) ≡ a + b + c
-plus-assoc a b c = omega arith
+one : (x : ℕ) → x ≤ 255 → x % 256 ≡ x
+one x h = omega arith
 
 two : (x : ℕ) → x < 0x10000 → joined 2 x ≡ x
 two x h = joined-back 2 x h
 
-three : (x : ℕ) → _≡_ {A = ℕ} (cond (ltb 0o77777777 x) 6 0) 0 → joined 3 x ≡ x
-three x h = let k = ltb-false 0o77777777 x (passed (ltb 0o77777777 x) 5 0 h .0) in joined-back 3 x (omega arith)
+three : (x : ℕ) → x ≤ 0o77777777 → joined 3 x ≡ x
+three x h = joined-back 3 x (omega arith)
+
+plus-assoc : (a b c : ℕ) → a + (b + c) ≡ a + b + c
+plus-assoc a b c = omega arith
 
 -- the event of a record's bytes, at the front
 event-back : (e : Event) (q : List ℕ) → Fits e → Held e → eventOf (byteAt (recordOf e ++ q) 0) (recordOf e ++ q) 1 ≡ e
 unfolding eventOf recordOf joined
 event-back (Refer r) q f h =
-    let phase : ℕ = cond (ltb 255 (r .phase)) 5 0 in
-    let access : ℕ = cond (ltb 255 (r .access)) 4 phase in
-    let space : ℕ = cond (ltb 255 (r .space)) 3 access in
-    let f-space = passed (ltb 255 (r .mode)) 1 space f .1 in
-    let f-access = passed (ltb 255 (r .space)) 2 access f-space .1 in
-    let f-phase = passed (ltb 255 (r .access)) 3 phase f-access .1 in
-    rw (one (r .mode) 1 space f, one (r .space) 2 access f-space, one (r .access) 3 phase f-access, one (r .phase) 4 0 f-phase, two (r .va) h)
-event-back (Read address) q f h = rw (three address f)
-event-back (Write address value) q f h = rw (three address f, two value h)
+    let b = reference-fits r f in
+    rw (one (r .mode) (b .mode), one (r .space) (b .space), one (r .access) (b .access), one (r .phase) (b .phase), two (r .va) h)
+event-back (Read address) q f h = rw (three address (address-fits address f))
+event-back (Write address value) q f h = rw (three address (address-fits address f), two value h)
 event-back (Instruction va) q f h = rw (two va h)
 event-back (Interrupt vector) q f h = rw (two vector h)
 event-back (Change register amount) q f h =
-    let good = passed (ltb 255 register || not (inByte amount)) 8 0 f .0 in
-    rw (one-or register amount good, signed-back amount (neither (ltb 255 register) (inByte amount) good))
+    let b = change-fits register amount f in
+    rw (one register (b .0), signed-back amount (b .1))
 event-back Init q f h = refl
 
 -- and so at any place

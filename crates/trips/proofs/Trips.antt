@@ -6,19 +6,18 @@ use Prim.Native.Nat.{ℕ, zero, suc, _+_, _<_, _≤_}
 use native.Mathlib.Omega.{arith}
 use lib.ListN.{length, take, drop, length-append, length-drop, take-append-drop, drop-of-length-le}
 use lib.Seq.{take-at, drop-at, drop-drop, length-take-le, drop-append-seam}
-use lib.Dec.{ltb, eqb}
-use borrow.Author.Tests.{eq-eqb, eqb-true, le-ltb}
-use Rattle.rules.specs.Refusals.{Conditions, lowest}
+use lib.Dec.{eqb}
+use borrow.Author.Tests.{eqb-true}
 use Rattle.rules.specs.declared.Event.{Event}
 use Rattle.records.specs.Records.{recordAt}
-use Rattle.records.specs.Recordings.{Records, event, end, refusal, before, recordsWithin, recordsFrom}
+use Rattle.records.specs.Recordings.{Records, before, recordsWithin, recordsFrom}
 use Rattle.records.specs.declared.Found.{Found}
 use Rattle.records.specs.declared.Found.the-variants.{Whole, Refused, End}
 use Rattle.records.proofs.Laws.{at-end, advances, end-tells}
 use Rattle.records.proofs.Recordings.{everyRecord}
 use Rattle.writer.specs.Bytes.{recordOf}
-use Rattle.writer.specs.Writing.{Said, Used, X, large, short, unwritten, answer, write}
-use Rattle.trips.specs.Trips.{onwards, writeAll, events, whole, Held, AllHeld, Bytes, ReadBack, WrittenBack}
+use Rattle.writer.specs.Writing.{Said, Used, X, unwritten, answer, write}
+use Rattle.trips.specs.Trips.{onwards, writeAll, events, whole, AllHeld, Bytes, ReadBack, WrittenBack}
 use Rattle.writer.proofs.Judged.{fitting, accepted, not-large}
 use Rattle.trips.proofs.Reading.{Fits, found}
 use Rattle.trips.proofs.Writing.{whole-back}

@@ -1,7 +1,6 @@
 -- An amount that a byte holds: what the code tests of it, and its two's complement.
 use mathlib.Core.Path.{_≡_, refl, sym}
-use mathlib.Core.Bool.{Bool, true, false, _&&_, and-true}
-use Prim.Native.Nat.{ℕ}
+use mathlib.Core.Bool.{true, false, _&&_, and-true}
 use native.Mathlib.Omega.{arith}
 use lib.Dec.{leb·suc-suc}
 use lib.IntN.{ℤ, pos, negsuc}

@@ -1,9 +1,8 @@
 -- What an answer tells of the refusal's number, and number 0 of the event: its record fits, and so does its amount.
-use mathlib.Core.Path.{_≡_, refl, sym, ap, _∙_}
-use mathlib.Core.Bool.{Bool, true, false, cond, not, _||_, true≢false, false≢true}
+use mathlib.Core.Path.{_≡_, refl, ap}
+use mathlib.Core.Bool.{Bool, true, false, cond, true≢false, false≢true}
 use mathlib.Core.List.{List, [], _∷_, _++_}
-use Prim.Native.Nat.{ℕ, suc, _+_, _≤_, _<_}
-use native.Mathlib.Omega.{arith}
+use Prim.Native.Nat.{ℕ, _+_, _≤_}
 use lib.ListN.{length}
 use lib.Dec.{ltb, eqb}
 use lib.IntN.{ℤ}
@@ -12,44 +11,51 @@ use Rattle.rules.specs.Refusals.{Conditions, lowest}
 use Rattle.rules.specs.declared.Event.{Event}
 use Rattle.rules.specs.declared.Event.the-variants.{Refer, Read, Write, Instruction, Interrupt, Change, Init}
 use Rattle.writer.specs.Bytes.{recordOf}
+use Rattle.writer.proofs.Fields.{passed, reference-fits, address-fits, change-fits}
 use Rattle.writer.specs.Writing.{Said, Used, X, inByte, large, short, unwritten, answer, write}
 
--- a condition whose number is not given, and those after it
-pub passed : (x : Bool) (n rest : ℕ) → cond x (suc n) rest ≡ 0 → (x ≡ false) × (rest ≡ 0)
-passed true n rest h = absurd (omega arith)
-passed false n rest h = (refl, h)
+-- no number is given by two lists of conditions exactly if by neither
+neither-given : (cs ds : Conditions) → lowest cs ≡ 0 → lowest ds ≡ 0 → lowest (cs ++ ds) ≡ 0
+neither-given [] ds f g = g
+neither-given ((n, true) ∷ cs) ds f g = f
+neither-given ((n, false) ∷ cs) ds f g = neither-given cs ds f g
 
+first-not-given : (cs ds : Conditions) → lowest (cs ++ ds) ≡ 0 → lowest cs ≡ 0
+first-not-given [] ds h = refl
+first-not-given ((n, true) ∷ cs) ds h = h
+first-not-given ((n, false) ∷ cs) ds h = first-not-given cs ds h
+
+-- an event whose fields fit, and whose record fits in what is left
+pub accepted : (room used : ℕ) (e : Event) → lowest (large e) ≡ 0 → used + length (recordOf e) ≤ room → unwritten room used e ≡ 0
+unfolding unwritten
+accepted room used e f h = neither-given (large e) (short room used (length (recordOf e))) f (rw (le-ltb room (used + length (recordOf e)) h))
+
+pub not-large : (room used : ℕ) (e : Event) → unwritten room used e ≡ 0 → lowest (large e) ≡ 0
+unfolding unwritten
+not-large room used e n = first-not-given (large e) (short room used (length (recordOf e))) n
+
+-- and the other way about: a record that is written fits in what is left
 roomy : (room used bytes : ℕ) → _≡_ {A = ℕ} (cond (ltb room (used + bytes)) 14 0) 0 → used + bytes ≤ room
 roomy room used bytes h = ltb-false room (used + bytes) (passed (ltb room (used + bytes)) 13 0 h .0)
 
 pub fitting : (room used : ℕ) (e : Event) → unwritten room used e ≡ 0 → used + length (recordOf e) ≤ room
 unfolding unwritten recordOf
 fitting room used (Refer r) h =
-    let last : ℕ = cond (ltb room (used + 7)) 14 0 in
-    let phase : ℕ = cond (ltb 255 (r .phase)) 5 last in
-    let access : ℕ = cond (ltb 255 (r .access)) 4 phase in
-    let space : ℕ = cond (ltb 255 (r .space)) 3 access in
-    let h-space = passed (ltb 255 (r .mode)) 1 space h .1 in
-    let h-access = passed (ltb 255 (r .space)) 2 access h-space .1 in
-    let h-phase = passed (ltb 255 (r .access)) 3 phase h-access .1 in
-    roomy room used 7 (passed (ltb 255 (r .phase)) 4 last h-phase .1)
-fitting room used (Read address) h = roomy room used 4 (passed (ltb 0o77777777 address) 5 (cond (ltb room (used + 4)) 14 0) h .1)
-fitting room used (Write address value) h = roomy room used 6 (passed (ltb 0o77777777 address) 5 (cond (ltb room (used + 6)) 14 0) h .1)
+    let b = reference-fits r (not-large room used (Refer r) h) in
+    roomy room used 7
+    (rw (le-ltb 255 (r .mode) (b .mode), le-ltb 255 (r .space) (b .space), le-ltb 255 (r .access) (b .access), le-ltb 255 (r .phase) (b .phase)) at h)
+fitting room used (Read address) h = roomy room used 4 (rw (le-ltb 0o77777777 address (address-fits address (not-large room used (Read address) h))) at h)
+fitting room used (Write address value) h =
+    roomy room used 6 (rw (le-ltb 0o77777777 address (address-fits address (not-large room used (Write address value) h))) at h)
 fitting room used (Instruction va) h = roomy room used 3 h
 fitting room used (Interrupt vector) h = roomy room used 3 h
 fitting room used (Change register amount) h =
-    roomy room used 3 (passed (ltb 255 register || not (inByte amount)) 8 (cond (ltb room (used + 3)) 14 0) h .1)
+    let b = change-fits register amount (not-large room used (Change register amount) h) in
+    roomy room used 3 (rw (le-ltb 255 register (b .0), b .1) at h)
 fitting room used Init h = roomy room used 1 h
 
-pub neither : (x y : Bool) → (x || not y) ≡ false → y ≡ true
-neither true y h = absurd (true≢false h)
-neither false true h = refl
-neither false false h = absurd (true≢false h)
-
 pub amount-fits : (room used register : ℕ) (amount : ℤ) → unwritten room used (Change register amount) ≡ 0 → inByte amount ≡ true
-unfolding unwritten recordOf
-amount-fits room used register amount h =
-    neither (ltb 255 register) (inByte amount) (passed (ltb 255 register || not (inByte amount)) 8 (cond (ltb room (used + 3)) 14 0) h .0)
+amount-fits room used register amount h = change-fits register amount (not-large room used (Change register amount) h) .1
 
 -- an answer is a number of bytes used, or a refusal
 is-used : Said → Bool
@@ -81,23 +87,3 @@ pub refusing : (b : List ℕ) (used : ℕ) (e : Event) (k : ℕ) → X k ≡ ans
     → (X k, b) ≡ write b used e
 unfolding write
 refusing b used e k told = rw (told, refused-tells (unwritten (length b) used e) (used + length (recordOf e)) k told)
-
--- no number is given by two lists of conditions exactly if by neither
-neither-given : (cs ds : Conditions) → lowest cs ≡ 0 → lowest ds ≡ 0 → lowest (cs ++ ds) ≡ 0
-neither-given [] ds f g = g
-neither-given ((n, true) ∷ cs) ds f g = f
-neither-given ((n, false) ∷ cs) ds f g = neither-given cs ds f g
-
-first-not-given : (cs ds : Conditions) → lowest (cs ++ ds) ≡ 0 → lowest cs ≡ 0
-first-not-given [] ds h = refl
-first-not-given ((n, true) ∷ cs) ds h = h
-first-not-given ((n, false) ∷ cs) ds h = first-not-given cs ds h
-
--- an event whose fields fit, and whose record fits in what is left
-pub accepted : (room used : ℕ) (e : Event) → lowest (large e) ≡ 0 → used + length (recordOf e) ≤ room → unwritten room used e ≡ 0
-unfolding unwritten
-accepted room used e f h = neither-given (large e) (short room used (length (recordOf e))) f (rw (le-ltb room (used + length (recordOf e)) h))
-
-pub not-large : (room used : ℕ) (e : Event) → unwritten room used e ≡ 0 → lowest (large e) ≡ 0
-unfolding unwritten
-not-large room used e n = first-not-given (large e) (short room used (length (recordOf e))) n

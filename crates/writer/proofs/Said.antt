@@ -4,7 +4,7 @@ use Prim.Native.Nat.{ℕ}
 use native.Mathlib.Omega.{arith}
 use Rattle.rules.specs.Paper.{number}
 use Rattle.rules.proofs.Papers.{numbered, same-refusal}
-use Rattle.writer.specs.Writing.{said, SaidOneToOne}
+use Rattle.writer.specs.Writing.{SaidOneToOne}
 use Rattle.writer.specs.declared.Wrote.the-variants.{Upto, Refused}
 
 pub saidOneToOne : SaidOneToOne

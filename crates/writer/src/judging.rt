@@ -48,7 +48,7 @@ fn judge_reference(room: usize, used: usize, r: Reference) -> Wrote
     judge_room(room, used, 7)
 }
 
-// a register's address, with so many bytes in its record
+// a register's address, with so many bytes in its record: 6 is given before 14, also where both hold
 fn judge_address(room: usize, used: usize, bytes: usize, address: u32) -> Wrote
     ensures { λ w. ⌜ said w ≡ answer (lowest (largeAddress address ++ shortOf room used bytes)) (used + bytes) ⌝ }
 {

@@ -1,6 +1,5 @@
 -- `kt11c_event_at` meets its contract: an event that a record holds fits its bytes, so that it has a code.
-use mathlib.Core.Path.{sym, _∙_, ap}
-use native.Mathlib.Omega.{arith}
+use mathlib.Core.Path.{sym, _∙_}
 use Rattle.trips.proofs.Writing.{whole-back}
 use borrow.Author.Needs.{needs}
 use Rattle.bench.proofs.kt11c_event_at.Statement.{statement}

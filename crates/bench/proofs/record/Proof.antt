@@ -9,8 +9,7 @@ use Rattle.writer.specs.Bytes.{recordOf}
 use Rattle.writer.specs.Writing.{Said, said, unwritten, write}
 use Rattle.writer.proofs.Judged.{used-tells}
 use Rattle.writer.specs.declared.Wrote.{Wrote}
-use Rattle.writer.specs.declared.Wrote.the-variants.{Upto, Refused}
-use Rattle.bench.specs.Codes.{coded}
+use Rattle.writer.specs.declared.Wrote.the-variants.{Upto}
 use Rattle.rules.proofs.Numbers.{at-most-14}
 use Rattle.writer.proofs.Lengths.{at-most-seven}
 use borrow.Author.Needs.{needs}

@@ -9,7 +9,7 @@ use Rattle.record.proofs.record.Tie as tie
 
 abbrev Inv-loop : tie.InvT-loop
 Inv-loop text₀ out₀ run₀ turns₀ text out run turns =
-    (length text ≡ length text₀) × (length out ≡ length out₀) × (run .at < length text₀) × (run .used ≤ length out₀)
+    (length text ≡ length text₀) × (length out ≡ length out₀) × (run .have < length text₀) × (run .used ≤ length out₀)
 
 abbrev μ-loop : tie.MeasureT-loop
 μ-loop text₀ out₀ run₀ turns₀ text out run turns = turns

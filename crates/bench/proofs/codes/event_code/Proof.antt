@@ -1,12 +1,9 @@
 -- `event_code` meets its contract: each kind has its own fields.
-use mathlib.Core.Path.{_≡_, ap}
-use mathlib.Core.Bool.{not, _||_}
+use mathlib.Core.Path.{_≡_}
 use native.Mathlib.Omega.{arith}
-use lib.Dec.{ltb}
 use mir.Syntax.{w32}
 use mir.Val.{toZ, ofZ}
-use Rattle.writer.specs.Writing.{inByte}
-use Rattle.writer.proofs.Judged.{passed, neither}
+use Rattle.writer.proofs.Fields.{change-fits}
 use Rattle.bench.specs.Codes.{eventCode}
 use borrow.Author.Needs.{needs}
 use Rattle.bench.proofs.codes.event_code.Statement.{statement}
@@ -15,11 +12,9 @@ use Rattle.bench.proofs.codes.event_code.Tie as tie
 change-fields-requires : tie.Need-change-fields-requires
 change-fields-requires c κs =
     let given = c .before .event6 .given in
-    let register = given .0 .0 in
     let amount = given .0 .1 .0 in
-    let good = passed (ltb 255 register || not (inByte amount)) 8 0 (rw (given .1) at (c .before .before .before .pre)) .0 in
     let held : toZ w32 (ofZ w32 amount) ≡ amount = search needs in
-    rw held (neither (ltb 255 register) (inByte amount) good)
+    rw held (change-fits (given .0 .0) amount (rw (given .1) at (c .before .before .before .pre)) .1)
 
 returns : tie.Need-returns
 unfolding eventCode

@@ -5,7 +5,6 @@ use mathlib.Core.Bool.{Bool, true, false}
 use Prim.Native.Nat.{ℕ, _+_, _-_, _≤_}
 use lib.Dec.{ltb}
 use borrow.Author.Tests.{lt-ltb, le-ltb, ltb-true, ltb-false}
-use borrow.Author.Needs.{needs}
 use Rattle.writer.proofs.judging.short.Statement.{statement}
 use Rattle.writer.proofs.judging.short.Tie as tie
 
