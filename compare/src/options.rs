@@ -1,4 +1,4 @@
-//! Command lines of `--name VALUE` and plain words.
+//! Command lines of `--name VALUE`, `--name` alone and plain words.
 
 use std::process::exit;
 
@@ -12,6 +12,12 @@ impl Options {
     pub fn new(usage: &'static str) -> Options {
         let words = std::env::args().skip(1).collect();
         Options { words, usage }
+    }
+
+    /// Takes `--name` alone out of the words: whether it was there.
+    pub fn flag(&mut self, name: &str) -> bool {
+        let at = self.words.iter().position(|word| word == name);
+        at.map(|at| self.words.remove(at)).is_some()
     }
 
     /// Takes `--name VALUE` out of the words.

@@ -6,26 +6,35 @@ use compare::race::recordings::tapes;
 use compare::race::replays::{self, Speeds};
 use compare::race::timing::{time, Spread, Times};
 
-const USAGE: &str = "race [--rounds N] [--seed N] [--row WORDS]";
+const USAGE: &str = "race [--rounds N] [--seed N] [--row WORDS]\n       race --names";
 
 fn main() {
     let mut options = Options::new(USAGE);
+    let names = options.flag("--names");
     let rounds = options.number("--rounds", 31).max(1);
     let seed = options.number("--seed", 1);
     let only = options.text("--row").unwrap_or_default();
     options.rest(0);
 
+    let (rows, tapes) = (rows(seed), tapes(seed));
+    let all: Vec<&str> = (rows.iter().map(|row| row.name))
+        .chain(tapes.iter().map(|tape| tape.name))
+        .collect();
+    if names {
+        all.iter().for_each(|name| println!("{name}"));
+        return;
+    }
+    // a whole name means that row alone, though others have its words too
+    let whole = all.contains(&only.as_str());
+    let chosen = |name: &str| name == only || !whole && name.contains(&only);
+
     print_head(rounds);
-    for row in rows(seed) {
-        if row.name.contains(&only) {
-            print_row(row.name, &time(&row, rounds as usize));
-        }
+    for row in rows.iter().filter(|row| chosen(row.name)) {
+        print_row(row.name, &time(row, rounds as usize));
     }
     print_tapes_head();
-    for tape in tapes(seed) {
-        if tape.name.contains(&only) {
-            print_tape(tape.name, &replays::time(&tape, rounds as usize));
-        }
+    for tape in tapes.iter().filter(|tape| chosen(tape.name)) {
+        print_tape(tape.name, &replays::time(tape, rounds as usize));
     }
 }
 

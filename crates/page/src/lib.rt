@@ -21,16 +21,13 @@ pub fn page_of(va: u16) -> u16
     va / 8192 % 8
 }
 
-// rule 4: the block lies beyond the page's length
+// rule 4: the block lies beyond the page's length. With ED 1 every bit of both numbers is turned about, and so is their order.
 pub fn length_error(pdr: u16, block: u16) -> bool
     ensures { λ r. ⌜ r ≡ lengthError pdr block ⌝ }
 {
     let length = pdr / 256 % 128;
-    if pdr / 8 % 2 == 0 {
-        length < block
-    } else {
-        block < length
-    }
+    let turn = pdr / 8 % 2 * 0o177777;
+    (length ^ turn) < (block ^ turn)
 }
 
 // rule 5: the byte of the manual's sum
