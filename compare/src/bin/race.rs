@@ -1,12 +1,14 @@
 //! Times the proved libraries against the independent version, row by row: events, then whole recordings.
 
+use std::process::exit;
+
 use compare::options::Options;
 use compare::race::inputs::rows;
 use compare::race::recordings::tapes;
 use compare::race::replays::{self, Speeds};
 use compare::race::timing::{time, Spread, Times};
 
-const USAGE: &str = "race [--rounds N] [--seed N] [--row WORDS]\n       race --names";
+const USAGE: &str = "race [--rounds N] [--seed N] [--row WORDS] [--names]";
 
 fn main() {
     let mut options = Options::new(USAGE);
@@ -20,13 +22,18 @@ fn main() {
     let all: Vec<&str> = (rows.iter().map(|row| row.name))
         .chain(tapes.iter().map(|tape| tape.name))
         .collect();
-    if names {
-        all.iter().for_each(|name| println!("{name}"));
-        return;
-    }
     // a whole name means that row alone, though others have its words too
     let whole = all.contains(&only.as_str());
     let chosen = |name: &str| name == only || !whole && name.contains(&only);
+    let named: Vec<&str> = all.iter().copied().filter(|name| chosen(name)).collect();
+    if named.is_empty() {
+        eprintln!("no row's name has '{only}'");
+        exit(2);
+    }
+    if names {
+        println!("{}", named.join("\n"));
+        return;
+    }
 
     print_head(rounds);
     for row in rows.iter().filter(|row| chosen(row.name)) {

@@ -21,13 +21,13 @@ pub fn page_of(va: u16) -> u16
     va / 8192 % 8
 }
 
-// rule 4: the block lies beyond the page's length. With ED 1 every bit of both numbers is turned about, and so is their order.
+// rule 4: the block lies beyond the page's length. With ED 1 every bit of both numbers is flipped, so that the greater becomes the lesser.
 pub fn length_error(pdr: u16, block: u16) -> bool
     ensures { λ r. ⌜ r ≡ lengthError pdr block ⌝ }
 {
     let length = pdr / 256 % 128;
-    let turn = pdr / 8 % 2 * 0o177777;
-    (length ^ turn) < (block ^ turn)
+    let flip = pdr / 8 % 2 * 0o177777;
+    (length ^ flip) < (block ^ flip)
 }
 
 // rule 5: the byte of the manual's sum
