@@ -26,6 +26,7 @@
 #ifndef KT11C_H
 #define KT11C_H
 
+#include <stdbool.h>
 #include <stddef.h>
 #include <stdint.h>
 
@@ -78,18 +79,48 @@ uint32_t kt11c_change(uint16_t *store, size_t words, uint32_t general_register, 
 /* INIT: SR0 to SR3 become 0; PAR and PDR stay. Done, or refused by 1. */
 uint32_t kt11c_init(uint16_t *store, size_t words);
 
-/* Replaying a recording (libtape.a).
+/* Replaying a recording (libtape.a), a piece at a time.
  *
- * A recording is replayed from the record at place `at` on, 0 for the first: each event happens on the store, and
- * its line goes to `out`, while the next line fits what is left of `room`. Where it does not, neither does its event
- * happen. Answers how many bytes of `out` were written; the bytes beyond them stay.
+ * A recording comes in pieces, cut anywhere: in the middle of a record, a byte at a time, empty ones too. However it is
+ * cut, the lines and the registers at the end are those of the uncut recording. Between two calls `state` holds what is
+ * to be kept, eleven words, all 0 before the first byte:
+ *     0 to 6  the bytes of a record that is begun and not whole        9  1 if the run is over
+ *     7       how many of them there are                              10  how many bytes of its piece the last call took
+ *     8       how many bytes of the recording came before them
  *
- * With a room of KT11C_TRANSCRIPT bytes one call from place 0 writes the whole transcript of any recording: the
- * longest is that of 8,191 register reads, three INITs and an unknown kind, 8,191 * 9 + 3 * 2 + 5 bytes. Where the
- * store isn't 100 words, or the recording has over 32,768 bytes, it is one line, refusal 1 or 13.
+ * Each event happens on the store, and its line goes to `out`, while the next line fits what is left of `room`. Where it
+ * does not, neither does its event happen, and the bytes from there on are not taken: the next call is given them again.
+ * `last` says that nothing comes after this piece; it may be empty. Answers how many bytes of `out` were written; the
+ * bytes beyond them stay. With a room of KT11C_LINE bytes or more every call gets on:
  *
- * The caller owes the same as above for `recording` (which is only read) and for `out`; the three don't overlap. */
-#define KT11C_TRANSCRIPT 73730u
+ *     uint64_t state[KT11C_STATE] = {0};
+ *     while (!KT11C_OVER(state)) {
+ *         size_t got = fread(piece, 1, sizeof piece, in), at = 0;
+ *         do {
+ *             size_t n = kt11c_feed(store, KT11C_WORDS, state, piece + at, got - at, got == 0, out, sizeof out);
+ *             fwrite(out, 1, n, stdout);
+ *             at += KT11C_TAKEN(state);
+ *         } while (at < got);
+ *     }
+ *
+ * The run is over after the last line of the last piece, and after a refusal by 1 (the store isn't 100 words), 11
+ * (unknown kind), 12 (the recording's end cuts a record short) or 13 (a byte beyond 16,777,216 came; the records wholly
+ * inside that limit have their lines before it). Whatever a call is given then, it takes, and writes nothing.
+ *
+ * kt11c_replay is the same for a whole recording in one call, from the record at place `at` on, 0 for the first. With a
+ * room of KT11C_TRANSCRIPT bytes it writes the whole transcript of any recording: the longest is that of 4,194,304
+ * register reads, which fill the limit, and a byte beyond it: 4,194,304 * 9 + 5 bytes.
+ *
+ * The caller owes the same as above for `piece` and `recording` (which are only read), `state` and `out`; none of them
+ * overlap. */
+#define KT11C_STATE 11u
+#define KT11C_OVER(state) ((state)[9])
+#define KT11C_TAKEN(state) ((size_t)(state)[10])
+#define KT11C_LINE 14u
+#define KT11C_TRANSCRIPT 37748741u
+
+size_t kt11c_feed(uint16_t *store, size_t words, uint64_t *state, const uint8_t *piece, size_t bytes, bool last,
+                  uint8_t *out, size_t room);
 
 size_t kt11c_replay(uint16_t *store, size_t words, const uint8_t *recording, size_t bytes, size_t at,
                     uint8_t *out, size_t room);

@@ -3,10 +3,12 @@
 
 pub mod codes;
 mod counts;
+pub mod cuts;
 pub mod draw;
 pub mod edges;
 pub mod fields;
 pub mod history;
+pub mod limits;
 pub mod met;
 pub mod options;
 pub mod print;
@@ -20,5 +22,6 @@ pub mod recordings;
 pub mod replays;
 pub mod shrink;
 pub mod slips;
+pub mod tally;
 pub mod texts;
 pub mod trips;

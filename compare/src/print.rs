@@ -101,7 +101,11 @@ pub fn hex(record: &[u8]) -> String {
     bytes.join(" ")
 }
 
-/// Prints lines, equal ones that follow each other as one with their number.
+/// How many lines are printed from the start, and from the end, where there are more.
+const SHOWN: usize = 40;
+
+/// Prints lines, equal ones that follow each other as one with their number; of many
+/// the first and the last.
 pub fn print_runs(lines: impl Iterator<Item = String>) {
     let mut runs: Vec<(String, u64)> = Vec::new();
     for line in lines {
@@ -110,8 +114,11 @@ pub fn print_runs(lines: impl Iterator<Item = String>) {
             _ => runs.push((line, 1)),
         }
     }
-    for (line, count) in runs {
+    let last = runs.len().saturating_sub(SHOWN);
+    for (at, (line, count)) in runs.iter().enumerate() {
         match count {
+            _ if at == SHOWN && at < last => println!("  and {} more, then", last - SHOWN),
+            _ if (SHOWN..last).contains(&at) => {}
             1 => println!("  {line}"),
             _ => println!("  {line}  ({count} times)"),
         }

@@ -23,6 +23,16 @@ pub mod raw {
         pub fn kt11c_interrupt(store: *mut u16, words: usize, vector: u16) -> u32;
         pub fn kt11c_change(store: *mut u16, words: usize, register: u32, amount: i32) -> u32;
         pub fn kt11c_init(store: *mut u16, words: usize) -> u32;
+        pub fn kt11c_feed(
+            store: *mut u16,
+            words: usize,
+            state: *mut u64,
+            piece: *const u8,
+            bytes: usize,
+            last: bool,
+            out: *mut u8,
+            room: usize,
+        ) -> usize;
         pub fn kt11c_replay(
             store: *mut u16,
             words: usize,
@@ -124,8 +134,52 @@ pub fn init(store: &mut [u16]) -> Answered {
     decode(unsafe { raw::kt11c_init(store.as_mut_ptr(), store.len()) })
 }
 
-/// The longest transcript: 8,191 register reads, three INITs and an unknown kind.
-pub const LONGEST_TEXT: usize = 73_730;
+/// The longest line: a grant's.
+pub const LONGEST_LINE: usize = 14;
+
+/// The longest transcript: 4,194,304 register reads, and a byte beyond the limit.
+pub const LONGEST_TEXT: usize = 37_748_741;
+
+/// A room that holds the text of any recording of so many bytes.
+pub fn room_for(bytes: usize) -> usize {
+    LONGEST_TEXT.min(3 * bytes + 5)
+}
+
+/// What is kept between two pieces of a recording.
+pub type State = [u64; 11];
+
+/// Whether the run is over.
+pub fn is_over(state: &State) -> bool {
+    state[9] != 0
+}
+
+/// How many bytes of its piece the last call took.
+pub fn taken(state: &State) -> u64 {
+    state[10]
+}
+
+/// A piece of a recording replayed as far as whole lines fit; how many bytes were written.
+pub fn feed(
+    store: &mut [u16],
+    state: &mut State,
+    piece: &[u8],
+    last: bool,
+    out: &mut [u8],
+) -> usize {
+    // SAFETY: as above; the piece is only read, and the state and the output are this call's alone.
+    unsafe {
+        raw::kt11c_feed(
+            store.as_mut_ptr(),
+            store.len(),
+            state.as_mut_ptr(),
+            piece.as_ptr(),
+            piece.len(),
+            last,
+            out.as_mut_ptr(),
+            out.len(),
+        )
+    }
+}
 
 /// A recording replayed from a place on, as far as whole lines fit; how many bytes were written.
 pub fn replay(store: &mut [u16], recording: &[u8], at: usize, out: &mut [u8]) -> usize {
@@ -206,5 +260,27 @@ pub fn read_record(recording: &[u8], at: usize) -> Standing {
     Standing {
         here: decode_found(code),
         after,
+    }
+}
+
+#[cfg(test)]
+mod tests {
+    use super::*;
+
+    /// The number that include/kt11c.h gives a name.
+    fn header(name: &str) -> usize {
+        let header = include_str!("../../include/kt11c.h");
+        let define = format!("#define {name} ");
+        let mut lines = header.lines();
+        let number = lines.find_map(|line| line.strip_prefix(&define));
+        let number = number.unwrap_or_else(|| panic!("no {name}"));
+        number.trim_end_matches('u').parse().expect("a number")
+    }
+
+    #[test]
+    fn the_sizes_are_the_headers() {
+        assert_eq!(header("KT11C_STATE"), State::default().len());
+        assert_eq!(header("KT11C_LINE"), LONGEST_LINE);
+        assert_eq!(header("KT11C_TRANSCRIPT"), LONGEST_TEXT);
     }
 }

@@ -6,7 +6,8 @@ use crate::draw;
 use crate::fields::{address_of, WORDS};
 use crate::random::Random;
 
-pub const LIMIT: usize = 32_768;
+/// The bytes of a long one among the drawn recordings, and of a raced one.
+pub const USUAL: usize = 32_768;
 
 /// The bytes of a record; numbers are cut to what its body holds.
 pub fn record(event: Event) -> Vec<u8> {
@@ -33,16 +34,16 @@ pub fn record(event: Event) -> Vec<u8> {
     }
 }
 
-/// The recordings that every run begins with: 01's whole case, each edge of the
-/// length, every first byte alone, every kind cut at every place.
+/// The recordings that every run begins with: 01's whole case, long ones of one
+/// kind, every first byte alone, every kind cut at every place.
 pub fn fixed() -> Vec<Vec<u8>> {
     let mut all = vec![
         whole_case(),
         Vec::new(),
-        [2, 0x7a, 0xff, 0x03].repeat(LIMIT / 4),
-        [1, 0, 0, 0, 0, 0x2e, 0xef].repeat(LIMIT / 7),
+        SR0_READ.repeat(USUAL / 4),
+        REFERENCE.repeat(USUAL / 7),
+        vec![7; USUAL],
     ];
-    all.extend([1, LIMIT - 1, LIMIT, LIMIT + 1, 40_000].map(|length| vec![7; length]));
     all.extend((0..=255).map(|kind| vec![kind]));
     for (kind, body) in [(1, 6), (2, 3), (3, 5), (4, 2), (5, 2), (6, 2)] {
         for length in 0..=body {
@@ -54,12 +55,11 @@ pub fn fixed() -> Vec<Vec<u8>> {
     all
 }
 
-/// The recording with the longest text, 73,730 bytes: register reads, three INITs, an unknown kind.
-pub fn longest() -> Vec<u8> {
-    let mut bytes = [2, 0x7a, 0xff, 0x03].repeat(LIMIT / 4 - 1);
-    bytes.extend([7, 7, 7, 0]);
-    bytes
-}
+/// A read of SR0.
+pub const SR0_READ: [u8; 4] = [2, 0x7a, 0xff, 0x03];
+
+/// A reference: Kernel, instruction stream, read, VA 167456.
+pub const REFERENCE: [u8; 7] = [1, 0, 0, 0, 0, 0x2e, 0xef];
 
 /// 01's "Whole case".
 pub fn whole_case() -> Vec<u8> {
@@ -75,15 +75,18 @@ pub const WHOLE_CASE_TEXT: &str = "D\nD\nD\nG 355256 - 07\nR 077406\n";
 /// A recording: mostly some hundreds of records, whole or damaged.
 pub fn recording(random: &mut Random) -> Vec<u8> {
     let length = match random.below(20) {
-        0 => random.pick(&[0, 1, LIMIT - 1, LIMIT, LIMIT + 1, 40_000]),
-        1 => LIMIT - random.below(12) as usize,
+        0 => random.pick(&[0, 1, USUAL - 1, USUAL, USUAL + 1, 40_000]),
+        1 => USUAL - random.below(12) as usize,
         2..=5 => random.below(20) as usize,
         _ => random.below(3_000) as usize,
     };
     let mut bytes = match random.below(12) {
         0 => (0..length).map(|_| random.word() as u8).collect(),
         1 => (0..length).map(|_| random.below(9) as u8).collect(),
-        _ => records(random, length),
+        _ => {
+            let cut = random.percent(50);
+            records(random, length, cut)
+        }
     };
     if random.percent(30) && !bytes.is_empty() {
         damage(random, &mut bytes);
@@ -93,8 +96,7 @@ pub fn recording(random: &mut Random) -> Vec<u8> {
 
 /// Records of drawn events up to a length: the last one is cut there, or INITs
 /// stand in its place.
-fn records(random: &mut Random, length: usize) -> Vec<u8> {
-    let cut = random.percent(50);
+pub fn records(random: &mut Random, length: usize, cut: bool) -> Vec<u8> {
     let mut store = [0; 100];
     let mut bytes = Vec::new();
     let mut opening = if random.percent(60) {
@@ -147,10 +149,9 @@ pub fn damage(random: &mut Random, bytes: &mut Vec<u8>) {
 }
 
 /// The records of a recording; what is left from the first bad one stays whole.
-pub fn split(mut bytes: &[u8]) -> Vec<Vec<u8>> {
-    let mut records = Vec::new();
-    while let Some(kind) = bytes.first() {
-        let length = match kind {
+pub fn each(mut bytes: &[u8]) -> impl Iterator<Item = &[u8]> {
+    std::iter::from_fn(move || {
+        let length = match bytes.first()? {
             1 => 7,
             2 => 4,
             3 => 6,
@@ -159,8 +160,53 @@ pub fn split(mut bytes: &[u8]) -> Vec<Vec<u8>> {
             _ => bytes.len(),
         };
         let (record, rest) = bytes.split_at(length.min(bytes.len()));
-        records.push(record.to_vec());
         bytes = rest;
+        Some(record)
+    })
+}
+
+/// The records of a recording, each with bytes of its own.
+pub fn split(bytes: &[u8]) -> Vec<Vec<u8>> {
+    each(bytes).map(<[u8]>::to_vec).collect()
+}
+
+/// So many records from the start of a recording.
+pub fn beginning(bytes: &[u8], records: usize) -> &[u8] {
+    let length = each(bytes).take(records).map(<[u8]>::len).sum();
+    &bytes[..length]
+}
+
+#[cfg(test)]
+mod tests {
+    use super::*;
+
+    #[test]
+    fn a_recording_is_split_at_its_records() {
+        let case = whole_case();
+        let lengths: Vec<usize> = each(&case).map(<[u8]>::len).collect();
+        assert_eq!(lengths, [6, 6, 6, 7, 4]);
+        assert_eq!(split(&case).concat(), case);
+        assert_eq!(split(&[7, 6, 1]), [vec![7], vec![6, 1]]);
+        assert_eq!(split(&[7, 0, 7, 7]), [vec![7], vec![0, 7, 7]]);
     }
-    records
+
+    #[test]
+    fn a_beginning_has_so_many_records() {
+        let case = whole_case();
+        assert_eq!(beginning(&case, 0), []);
+        assert_eq!(beginning(&case, 2), &case[..12]);
+        assert_eq!(beginning(&case, 5), case);
+        assert_eq!(beginning(&case, 6), case);
+    }
+
+    #[test]
+    fn drawn_records_that_are_not_cut_are_whole() {
+        let mut random = Random::new(1);
+        for length in 0..500 {
+            let bytes = records(&mut random, length, false);
+            let text = peer::replay(&mut [0; WORDS], &bytes);
+            assert_eq!(bytes.len(), length);
+            assert!(!text.ends_with(b"X 11\n") && !text.ends_with(b"X 12\n"));
+        }
+    }
 }

@@ -4,9 +4,9 @@ use peer::RECORDING_LIMIT;
 
 use crate::fields::{name_of, WORDS};
 use crate::print::{hex, print_runs};
-use crate::proved::{self, LONGEST_TEXT};
-use crate::recordings::split;
-use crate::shrink::shrink_list;
+use crate::proved::{self, room_for};
+use crate::recordings::{beginning, each, split};
+use crate::shrink::{shrink_end, shrink_list, LONG};
 
 /// What fills an output before the call, and stands around it.
 const FILL: u8 = 0xa5;
@@ -29,9 +29,9 @@ impl Replay {
     pub fn whole(recording: Vec<u8>) -> Replay {
         Replay {
             store: vec![0; WORDS],
-            recording,
             at: 0,
-            room: LONGEST_TEXT,
+            room: room_for(recording.len()),
+            recording,
         }
     }
 
@@ -56,19 +56,16 @@ impl Replay {
     /// The other side replays what is left from the place on; where its text is longer
     /// than the output, only the records whose lines fit.
     fn peer(&self) -> Outcome {
-        let left = match self.recording.len() {
-            0..=RECORDING_LIMIT => self.recording.get(self.at..).unwrap_or(&[]),
-            _ => &self.recording,
-        };
         let mut store = self.store.clone();
-        let mut text = peer::replay(&mut store, left);
+        let left = self.recording.get(self.at..).unwrap_or(&[]);
+        let mut text = peer_after(&mut store, self.at, left);
         if text.len() > self.room {
             let fitting = text[..self.room].iter().filter(|&&byte| byte == b'\n');
-            let records = &split(left)[..fitting.count()];
+            let records = beginning(left, fitting.count());
             store = self.store.clone();
             text = match records {
                 [] => Vec::new(),
-                _ => peer::replay(&mut store, &records.concat()),
+                _ => peer::replay(&mut store, records),
             };
         }
         (text, store)
@@ -85,6 +82,14 @@ impl Replay {
             };
             replay.same().is_none()
         };
+        if small.recording.len() > LONG {
+            let mut bytes = small.recording.clone();
+            shrink_end(&mut bytes, |some| differs(&small, some.to_vec()));
+            small.recording = bytes;
+        }
+        if small.recording.len() > LONG {
+            return small;
+        }
         let mut records = split(&small.recording);
         shrink_list(&mut records, |some| differs(&small, some.concat()));
         small.recording = records.concat();
@@ -113,7 +118,7 @@ impl Replay {
                 println!("  {} {word:06o}", name_of(place));
             }
         }
-        print_runs(split(&self.recording).iter().map(|record| hex(record)));
+        print_runs(each(&self.recording).map(hex));
         let (text, store) = self.peer();
         match self.proved() {
             None => println!("proved writes beyond its text"),
@@ -131,7 +136,67 @@ impl Replay {
     }
 }
 
+/// The peer's text for what is left of a recording after so many bytes, which count towards
+/// the limit: where some beyond it are left, refusal 13 is the last line, unless an unknown
+/// kind or the store stopped the run before.
+pub fn peer_after(store: &mut [u16], before: usize, left: &[u8]) -> Vec<u8> {
+    if before == 0 {
+        return peer::replay(store, left);
+    }
+    let inside = left.len().min(RECORDING_LIMIT.saturating_sub(before));
+    let mut text = peer::replay(store, &left[..inside]);
+    let stopped = text.ends_with(b"X 11\n") || text.ends_with(b"X 01\n");
+    if left.len() > inside && !stopped {
+        if text.ends_with(b"X 12\n") {
+            text.truncate(text.len() - 5);
+        }
+        text.extend(b"X 13\n");
+    }
+    text
+}
+
 fn print_runs_of(name: &str, text: &[u8]) {
     println!("{name} writes");
     print_runs(String::from_utf8_lossy(text).lines().map(str::to_string));
+}
+
+#[cfg(test)]
+mod tests {
+    use super::*;
+    use crate::recordings::{REFERENCE, SR0_READ};
+
+    /// The text of what is left so many bytes before the limit.
+    #[track_caller]
+    fn gives(before: usize, left: &[u8], text: &str) {
+        let before = RECORDING_LIMIT - before;
+        let found = peer_after(&mut [0; WORDS], before, left);
+        assert_eq!(String::from_utf8_lossy(&found), text);
+    }
+
+    #[test]
+    fn the_bytes_before_a_place_count_towards_the_limit() {
+        gives(4, &SR0_READ, "R 000000\n");
+        gives(3, &SR0_READ, "X 13\n");
+        gives(5, &[7, 2, 0x7a, 0xff, 0x03, 7], "D\nR 000000\nX 13\n");
+        gives(6, &REFERENCE, "X 13\n");
+        gives(6, &REFERENCE[..6], "X 12\n");
+        gives(2, &[7, 8, 7], "D\nX 11\n");
+        gives(1, &[7, 8], "D\nX 13\n");
+        gives(0, &[8], "X 13\n");
+        gives(0, &[], "");
+    }
+
+    #[test]
+    fn no_store_gives_refusal_13_before_1() {
+        let text = peer_after(&mut [0; 99], RECORDING_LIMIT, &[7]);
+        assert_eq!(text, b"X 01\n");
+    }
+
+    #[test]
+    fn a_replay_from_the_first_place_is_the_whole_one() {
+        let recording = [SR0_READ.to_vec(), vec![7]].concat();
+        let text = peer_after(&mut [0; WORDS], 0, &recording);
+        assert_eq!(text, b"R 000000\nD\n");
+        assert_eq!(Replay::whole(recording).same(), Some(text));
+    }
 }

@@ -5,6 +5,20 @@ use crate::history::{History, Pair};
 /// The most cases that are tried to make a list shorter.
 const TRIES: usize = 2_000;
 
+/// A list of more items than this is only made shorter from its end.
+pub const LONG: usize = 1 << 16;
+
+/// Drops items from the end, half of them first, while `fails` still holds.
+pub fn shrink_end<T: Clone>(items: &mut Vec<T>, mut fails: impl FnMut(&[T]) -> bool) {
+    let mut run = items.len().div_ceil(2);
+    while run > 0 {
+        match items.len().checked_sub(run) {
+            Some(left) if fails(&items[..left]) => items.truncate(left),
+            _ => run /= 2,
+        }
+    }
+}
+
 /// Drops runs of items, long runs first, while `fails` still holds.
 pub fn shrink_list<T: Clone>(items: &mut Vec<T>, mut fails: impl FnMut(&[T]) -> bool) {
     let mut run = items.len().max(1);
@@ -104,5 +118,29 @@ fn change_store(history: &mut History, change: impl Fn(&mut [u16])) {
     change(&mut history.store);
     if history.store != before && history.difference().is_none() {
         history.store = before;
+    }
+}
+
+#[cfg(test)]
+mod tests {
+    use super::*;
+
+    #[test]
+    fn what_is_not_needed_is_dropped() {
+        let needed = |some: &[u32]| some.contains(&300) && some.contains(&700);
+        let mut items: Vec<u32> = (0..1_000).collect();
+        shrink_end(&mut items, needed);
+        assert_eq!(items, (0..=700).collect::<Vec<_>>());
+        shrink_list(&mut items, needed);
+        assert_eq!(items, [300, 700]);
+    }
+
+    #[test]
+    fn a_list_of_which_nothing_is_needed_becomes_empty() {
+        for length in 0..20 {
+            let mut items = vec![0; length];
+            shrink_end(&mut items, |_| true);
+            assert_eq!(items, []);
+        }
     }
 }

@@ -60,6 +60,7 @@ pub enum Answer {
 }
 
 /// Applies one event to the store.
+#[inline(always)]
 pub fn apply(store: &mut Store, event: Event) -> Answer {
     match event {
         Event::Reference {

@@ -72,7 +72,8 @@ pub fn init(store: &mut [u16]) -> Answer {
     lend(store, status::init)
 }
 
-/// Replays a whole recording and gives its text; refusals 1 and 13 come first.
+/// Replays a whole recording and gives its text; refusal 1 comes first, as the
+/// only line, and 13 last.
 pub fn replay(store: &mut [u16], recording: &[u8]) -> Vec<u8> {
     match <&mut Store>::try_from(store) {
         Ok(store) => recording::replay(store, recording),

@@ -25,7 +25,7 @@ pub const SR1_FULL: u8 = 10;
 pub const RECORD_KIND: u8 = 11;
 /// Record cut short.
 pub const RECORD_CUT_SHORT: u8 = 12;
-/// Recording over 32,768 bytes.
+/// Request E4: recording over 16,777,216 bytes.
 pub const RECORDING_TOO_LONG: u8 = 13;
 /// Request E2: the record doesn't fit in the lent buffer.
 pub const NO_ROOM: u8 = 14;

@@ -29,6 +29,7 @@ pub fn write(store: &mut Store, address: u32, value: u16) -> Answer {
 }
 
 /// The place of the register at an address, or refusal 6, 7 or 8.
+#[inline]
 fn addressed(address: u32) -> Result<usize, u8> {
     if address > 0o777777 {
         Err(refusals::ADDRESS_TOO_HIGH)
@@ -39,6 +40,7 @@ fn addressed(address: u32) -> Result<usize, u8> {
     }
 }
 
+#[inline]
 fn store_value(store: &mut Store, place: usize, value: u16) {
     match place {
         // A PAR write also clears A and W of the page's PDR and no other bit there.

@@ -107,10 +107,10 @@ fn an_amount_is_a_twos_complement_byte() {
 
 #[test]
 fn a_recording_too_long_to_be_replayed_is_read() {
-    let recording = [7; 40_000];
-    for at in [0, 32_767, 32_768, 39_999] {
+    let recording = vec![7; 16_800_000];
+    for at in [0, 16_777_215, 16_777_216, 16_799_999] {
         let found = read_record(&recording, at);
         assert_eq!(found, Found::Event(Event::Init, at + 1));
     }
-    assert_eq!(read_record(&recording, 40_000), Found::End);
+    assert_eq!(read_record(&recording, 16_800_000), Found::End);
 }

@@ -1,10 +1,16 @@
 //! Recordings at their edges, and the program that replays one.
 
 use std::fs::File;
-use std::io::Write;
+use std::io::{ErrorKind, Write};
 use std::process::{Command, Output, Stdio};
+use std::thread;
 
-use peer::{apply, replay, Event};
+use peer::{apply, replay, Event, RECORDING_LIMIT};
+
+const LIMIT: usize = 16_777_216;
+
+/// A register read of SR0.
+const READ: [u8; 4] = [2, 0x7A, 0xFF, 0x03];
 
 #[track_caller]
 fn text(recording: &[u8], expected: &str) {
@@ -17,20 +23,79 @@ fn empty_input_gives_empty_output() {
     text(&[], "");
 }
 
+/// Replays INITs and then the given bytes, registers 0 at first and at the end,
+/// and gives the lines after those of the INITs.
+fn after_inits(count: usize, bytes: &[u8]) -> String {
+    let mut recording = vec![7; count];
+    recording.extend_from_slice(bytes);
+    let mut store = [0; 100];
+    let text = replay(&mut store, &recording);
+    let (done, rest) = text.split_at(2 * count);
+    assert!(done.chunks(2).all(|line| line == b"D\n"));
+    assert_eq!(store, [0; 100]);
+    String::from_utf8(rest.to_vec()).unwrap()
+}
+
 #[test]
-fn the_limit_is_32_768_bytes() {
-    text(&[7; 32_768], &"D\n".repeat(32_768));
-    let mut store = [0o177777; 100];
-    assert_eq!(replay(&mut store, &[7; 32_769]), b"X 13\n");
-    assert_eq!(store, [0o177777; 100]);
+fn the_limit_is_16_777_216_bytes() {
+    assert_eq!(RECORDING_LIMIT, LIMIT);
+    assert_eq!(after_inits(LIMIT, &[]), "");
+    assert_eq!(after_inits(LIMIT - 4, &READ), "R 000000\n");
+    // Beyond it there may be anything, a whole record or none.
+    for beyond in [&[7][..], &[0], &READ[..1], &READ, &[7; 10_000]] {
+        assert_eq!(after_inits(LIMIT, beyond), "X 13\n");
+    }
+    assert_eq!(
+        after_inits(LIMIT - 4, &[2, 0x7A, 0xFF, 3, 7]),
+        "R 000000\nX 13\n"
+    );
+}
+
+#[test]
+fn a_record_that_crosses_the_limit_gives_13_only() {
+    for inside in 1..4 {
+        assert_eq!(after_inits(LIMIT - inside, &READ), "X 13\n");
+        // The end cuts it too, one byte beyond the limit.
+        let cut = &READ[..inside + 1];
+        assert_eq!(after_inits(LIMIT - inside, cut), "X 13\n");
+    }
+    // It changes no register: this would set SR0's bit 0.
+    for inside in [1, 5] {
+        let write = [3, 0x7A, 0xFF, 0x03, 1, 0];
+        assert_eq!(after_inits(LIMIT - inside, &write), "X 13\n");
+    }
+    // Nor are its own refusals given.
+    let odd = [2, 0x7B, 0xFF, 0x03];
+    assert_eq!(after_inits(LIMIT - 3, &odd), "X 13\n");
+}
+
+#[test]
+fn a_record_cut_short_at_the_limit_gives_12() {
+    for inside in 1..4 {
+        assert_eq!(after_inits(LIMIT - inside, &READ[..inside]), "X 12\n");
+    }
+}
+
+#[test]
+fn an_unknown_kind_inside_the_limit_stops_before_13() {
+    for kind in [0, 8] {
+        assert_eq!(after_inits(LIMIT - 1, &[kind, 7]), "X 11\n");
+    }
+    assert_eq!(after_inits(LIMIT - 1, &[0]), "X 11\n");
+    let mut recording = vec![7; LIMIT + 1];
+    recording[2] = 9;
+    text(&recording, "D\nD\nX 11\n");
 }
 
 #[test]
 fn full_recordings_of_reads_and_of_references() {
-    let reads = [2, 0x7A, 0xFF, 0x03].repeat(8192);
-    text(&reads, &"R 000000\n".repeat(8192));
-    let references = [1, 0, 0, 0, 0, 0, 0].repeat(4681);
-    text(&references, &"G 000000 - --\n".repeat(4681));
+    let reads = READ.repeat(LIMIT / 4);
+    let lines = "R 000000\n".repeat(LIMIT / 4);
+    assert!(replay(&mut [0; 100], &reads) == lines.as_bytes());
+    // One byte less than the limit.
+    let references = [1, 0, 0, 0, 0, 0, 0].repeat(2_396_745);
+    let lines = "G 000000 - --\n".repeat(2_396_745);
+    assert!(replay(&mut [0; 100], &references) == lines.as_bytes());
 }
 
 #[test]
@@ -127,24 +192,67 @@ fn program(input: &[u8]) -> Output {
         .stderr(Stdio::piped())
         .spawn()
         .unwrap();
-    child.stdin.take().unwrap().write_all(input).unwrap();
-    child.wait_with_output().unwrap()
+    let mut stdin = child.stdin.take().unwrap();
+    thread::scope(|scope| {
+        scope.spawn(move || {
+            // A program that has stopped leaves the rest unread.
+            if let Err(error) = stdin.write_all(input) {
+                assert_eq!(error.kind(), ErrorKind::BrokenPipe);
+            }
+        });
+        child.wait_with_output().unwrap()
+    })
+}
+
+#[track_caller]
+fn program_text(input: &[u8], expected: &[u8]) {
+    let output = program(input);
+    // Compared without showing them, as they may be long.
+    assert!(output.stdout == expected);
+    assert!(output.stderr.is_empty());
+    assert!(output.status.success());
 }
 
 #[test]
 fn the_program_writes_the_text() {
-    for (input, expected) in [
-        (&[][..], &b""[..]),
-        (&[7, 2, 0x7A, 0xFF, 0x03], b"D\nR 000000\n"),
-        (&[7, 7, 0], b"D\nD\nX 11\n"),
-        (&[7; 32_768], "D\n".repeat(32_768).as_bytes()),
-        (&[7; 32_769], b"X 13\n"),
-    ] {
-        let output = program(input);
-        assert_eq!(output.stdout, expected);
-        assert!(output.stderr.is_empty());
-        assert!(output.status.success());
+    program_text(&[], b"");
+    program_text(&[7, 2, 0x7A, 0xFF, 0x03], b"D\nR 000000\n");
+    program_text(&[7, 7, 0], b"D\nD\nX 11\n");
+    program_text(&[7, 2, 0x7A, 0xFF], b"D\nX 12\n");
+}
+
+#[test]
+fn the_program_reads_in_pieces() {
+    // After one, two or three INITs, a read lies across each 4,096th byte.
+    for inits in 1..4 {
+        let mut recording = vec![7; inits];
+        recording.extend(READ.repeat(10_000));
+        let mut lines = "D\n".repeat(inits) + &"R 000000\n".repeat(10_000);
+        program_text(&recording, lines.as_bytes());
+        recording.pop();
+        lines.truncate(lines.len() - "R 000000\n".len());
+        lines += "X 12\n";
+        program_text(&recording, lines.as_bytes());
     }
+}
+
+#[test]
+fn the_program_has_the_limit() {
+    let mut recording = vec![7; LIMIT];
+    let mut lines = "D\n".repeat(LIMIT);
+    program_text(&recording, lines.as_bytes());
+    lines += "X 13\n";
+    recording.push(0);
+    program_text(&recording, lines.as_bytes());
+    recording.resize(LIMIT + 1_000_000, 7);
+    program_text(&recording, lines.as_bytes());
+}
+
+#[test]
+fn the_program_leaves_what_is_after_the_run_unread() {
+    let mut recording = vec![7; LIMIT];
+    recording[1] = 0;
+    program_text(&recording, b"D\nX 11\n");
 }
 
 #[cfg(target_os = "linux")]

@@ -185,6 +185,7 @@ fn the_lowest_refusal_of_a_register_address_is_given() {
 #[test]
 fn a_store_of_another_length_is_refused_first() {
     let refused = Answer::Refused(1);
+    let too_long = vec![7; 16_777_217];
     for length in [0, 99, 101] {
         let mut words = vec![0o177777; length];
         let store = &mut words[..];
@@ -197,7 +198,7 @@ fn a_store_of_another_length_is_refused_first() {
         assert_eq!(init(store), refused);
         assert_eq!(apply(store, Event::Init), refused);
         assert_eq!(replay(store, &[]), b"X 01\n");
-        assert_eq!(replay(store, &[7; 32_769]), b"X 01\n");
+        assert_eq!(replay(store, &too_long), b"X 01\n");
         assert_eq!(words, vec![0o177777; length]);
     }
 }

@@ -122,7 +122,9 @@ fn an_event_the_unit_would_refuse_is_recorded_and_refused_when_replayed() {
 
 #[test]
 fn a_recording_may_be_longer_than_can_be_replayed() {
-    good(&"init\n".repeat(32_769), &[7; 32_769]);
+    // 16,777,222 bytes.
+    let text = "reference 0 0 0 0 0\n".repeat(2_396_746);
+    good(&text, &[1, 0, 0, 0, 0, 0, 0].repeat(2_396_746));
 }
 
 #[test]

@@ -180,11 +180,13 @@ fn used_at_or_beyond_the_buffers_end_leaves_no_room() {
 
 #[test]
 fn a_buffer_may_be_longer_than_a_recording_that_can_be_replayed() {
-    let mut buffer = vec![0; 32_770];
-    assert_eq!(write_record(&mut buffer, 32_768, Event::Init), Ok(32_769));
-    assert_eq!(write_record(&mut buffer, 32_769, Event::Init), Ok(32_770));
-    assert_eq!(write_record(&mut buffer, 32_770, Event::Init), Err(14));
-    assert_eq!(buffer[32_767..], [0, 7, 7]);
+    let limit = 16_777_216;
+    let mut buffer = vec![0; limit + 2];
+    let mut init = |used| write_record(&mut buffer, used, Event::Init);
+    assert_eq!(init(limit), Ok(limit + 1));
+    assert_eq!(init(limit + 1), Ok(limit + 2));
+    assert_eq!(init(limit + 2), Err(14));
+    assert_eq!(buffer[limit - 1..], [0, 7, 7]);
 }
 
 #[test]

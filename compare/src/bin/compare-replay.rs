@@ -1,19 +1,24 @@
-//! Runs two replay programs on the same recordings, fixed and drawn, and
-//! compares what they write, byte for byte.
+//! Runs two replay programs on the same recordings, fixed and drawn, at the
+//! limit and in short pieces, and compares what they write, byte for byte.
 
 use std::collections::BTreeMap;
 use std::process::{exit, ExitCode};
 
+use compare::cuts::every;
+use compare::limits::{for_programs, Edge};
 use compare::options::Options;
 use compare::print::{hex, print_runs};
-use compare::programs::Program;
+use compare::programs::{Program, Writes};
 use compare::random::Random;
-use compare::recordings::{fixed, recording, split, whole_case, WHOLE_CASE_TEXT};
-use compare::shrink::shrink_list;
+use compare::recordings::{each, fixed, recording, split, whole_case, WHOLE_CASE_TEXT};
+use compare::shrink::{shrink_end, shrink_list, LONG};
 
 const USAGE: &str = "compare-replay [--recordings N] [--seed N] [--emulator COMMAND] PROVED PEER\n\
      COMMAND, as \"qemu-x86_64\", runs the program PROVED";
 const RECORDINGS: u64 = 1_000;
+/// Drawn recordings that are written in pieces, and the most pieces that one has.
+const APART: u64 = 100;
+const PIECES: usize = 60;
 
 /// The kinds of line that a run must have met: each answer, a grant by a page and one by none,
 /// and refusals 2 to 13.
@@ -42,6 +47,13 @@ struct Programs {
     peer: Program,
 }
 
+/// What was met so far: recordings with the same text, and their lines by kind.
+#[derive(Default)]
+struct Met {
+    passed: usize,
+    lines: BTreeMap<String, u64>,
+}
+
 fn main() -> ExitCode {
     let mut options = Options::new(USAGE);
     let drawn = options.number("--recordings", RECORDINGS);
@@ -55,38 +67,89 @@ fn main() -> ExitCode {
 
     programs.check_whole_case();
     let mut random = Random::new(seed);
-    let recordings = fixed()
-        .into_iter()
-        .chain((0..drawn).map(|_| recording(&mut random)));
-    let mut lines = BTreeMap::new();
-    let mut passed = 0;
-    for bytes in recordings {
-        match programs.same(&bytes) {
-            Some(text) => count_lines(&text, &mut lines),
-            None => {
-                programs.report(&bytes);
-                println!("{passed} passed, 1 failed");
-                return ExitCode::FAILURE;
-            }
+    let mut met = Met::default();
+    for bytes in fixed() {
+        programs.check(&mut met, &bytes, Writes::WHOLE);
+    }
+    for _ in 0..drawn {
+        programs.check(&mut met, &recording(&mut random), Writes::WHOLE);
+    }
+    println!(
+        "{} recordings ({drawn} drawn from seed {seed}): the same text",
+        met.passed
+    );
+    programs.check_apart(&mut met, &mut random);
+    for edge in for_programs() {
+        programs.check_edge(&mut met, &edge);
+    }
+    met.end()
+}
+
+impl Met {
+    /// Prints the counts; fails where a kind of line was never met.
+    fn end(&self) -> ExitCode {
+        for (kind, count) in &self.lines {
+            println!("{count:>12}  {kind}");
         }
-        passed += 1;
+        let missed = WANTED.iter();
+        let missed = missed.filter(|wanted| !self.lines.contains_key(**wanted));
+        let missed = missed.inspect(|wanted| println!("never met: {wanted}"));
+        let failed = missed.count();
+        let passed = self.passed + WANTED.len() - failed;
+        println!("{passed} passed, {failed} failed");
+        ExitCode::from(u8::from(failed != 0))
     }
-    for (kind, count) in &lines {
-        println!("{count:>12}  {kind}");
+
+    /// Ends the run at a recording that failed.
+    fn fail(&self) -> ! {
+        println!("{} passed, 1 failed", self.passed);
+        exit(1);
     }
-    let missed = WANTED.iter().filter(|wanted| !lines.contains_key(**wanted));
-    let missed = missed.inspect(|wanted| println!("never met: {wanted}"));
-    let failed = missed.count();
-    println!("{passed} recordings ({drawn} drawn from seed {seed}): the same text");
-    println!("{} passed, {failed} failed", passed + WANTED.len() - failed);
-    ExitCode::from(u8::from(failed != 0))
 }
 
 impl Programs {
+    /// The text that both programs write for a recording; a difference ends the run.
+    fn check(&self, met: &mut Met, recording: &[u8], writes: Writes) -> Vec<u8> {
+        let Some(text) = self.same(recording, writes) else {
+            self.report(recording, writes);
+            met.fail();
+        };
+        count_lines(&text, &mut met.lines);
+        met.passed += 1;
+        text
+    }
+
+    /// Small recordings a byte at a time, then drawn ones in pieces of one length.
+    fn check_apart(&self, met: &mut Met, random: &mut Random) {
+        let before = met.passed;
+        let small = every::recordings();
+        for bytes in small.iter().filter(|bytes| bytes.len() > 1) {
+            self.check(met, bytes, Writes::apart(1));
+        }
+        for _ in 0..APART {
+            let bytes = recording(random);
+            let piece = bytes.len() / PIECES + 1 + random.below(10) as usize;
+            self.check(met, &bytes, Writes::apart(piece));
+        }
+        let count = met.passed - before;
+        println!("{count} recordings in short writes ({APART} drawn): the same text");
+    }
+
+    /// A recording at the limit, its text held to what was counted by hand.
+    fn check_edge(&self, met: &mut Met, edge: &Edge) {
+        let name = edge.name;
+        let text = self.check(met, &(edge.make)(), Writes::WHOLE);
+        if let Some(wrong) = edge.wrong(&text) {
+            println!("at the limit, {name}: {wrong}");
+            met.fail();
+        }
+        println!("at the limit, {name}: the same text");
+    }
+
     /// 01's own recording, held to 01's text with the page of request E1: a program that can't be run stops here.
     fn check_whole_case(&self) {
         for program in [&self.proved, &self.peer] {
-            match program.run(&whole_case()) {
+            match program.run(&whole_case(), Writes::WHOLE) {
                 Ok(text) if text == WHOLE_CASE_TEXT.as_bytes() => {}
                 Ok(text) => {
                     println!("the whole case gives\n{}", String::from_utf8_lossy(&text));
@@ -101,22 +164,32 @@ impl Programs {
     }
 
     /// The text, if both programs write the same and neither fails.
-    fn same(&self, recording: &[u8]) -> Option<Vec<u8>> {
-        let proved = self.proved.run(recording).ok()?;
-        let peer = self.peer.run(recording).ok()?;
+    fn same(&self, recording: &[u8], writes: Writes) -> Option<Vec<u8>> {
+        let proved = self.proved.run(recording, writes).ok()?;
+        let peer = self.peer.run(recording, writes).ok()?;
         (proved == peer).then_some(proved)
     }
 
     /// Prints the smallest recording found on which they differ, and both texts.
-    fn report(&self, recording: &[u8]) {
-        let mut records = split(recording);
-        shrink_list(&mut records, |some| self.same(&some.concat()).is_none());
-        let mut bytes = records.concat();
-        shrink_list(&mut bytes, |some| self.same(some).is_none());
+    fn report(&self, recording: &[u8], writes: Writes) {
+        let differ = |some: &[u8]| self.same(some, writes).is_none();
+        let mut bytes = recording.to_vec();
+        if bytes.len() > LONG {
+            shrink_end(&mut bytes, differ);
+        }
+        if bytes.len() <= LONG {
+            let mut records = split(&bytes);
+            shrink_list(&mut records, |some| differ(&some.concat()));
+            bytes = records.concat();
+            shrink_list(&mut bytes, differ);
+        }
         println!("a difference, in a recording of {} bytes:", bytes.len());
-        print_runs(split(&bytes).iter().map(|record| hex(record)));
-        print_text("proved", self.proved.run(&bytes));
-        print_text("peer", self.peer.run(&bytes));
+        if writes.apart {
+            println!("written in pieces of {}:", writes.piece);
+        }
+        print_runs(each(&bytes).map(hex));
+        print_text("proved", self.proved.run(&bytes, writes));
+        print_text("peer", self.peer.run(&bytes, writes));
     }
 }
 

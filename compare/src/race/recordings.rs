@@ -6,7 +6,7 @@ use crate::draw;
 use crate::fields::{address_of, WORDS};
 use crate::race::inputs::{open, pages, valid};
 use crate::random::Random;
-use crate::recordings::{record, LIMIT};
+use crate::recordings::{record, USUAL};
 
 /// A store, and recordings of at most 32,768 bytes that are replayed on it one after another.
 pub struct Tape {
@@ -78,12 +78,12 @@ fn tape(
     draw: impl Fn(&mut Random, &[u16]) -> Event,
 ) -> Tape {
     let mut now = store;
-    let mut recordings = vec![Vec::with_capacity(LIMIT); count];
+    let mut recordings = vec![Vec::with_capacity(USUAL); count];
     for bytes in &mut recordings {
         loop {
             let event = draw(random, &now);
             let record = record(event);
-            if bytes.len() + record.len() > LIMIT {
+            if bytes.len() + record.len() > USUAL {
                 break;
             }
             peer::apply(&mut now, event);

@@ -4,9 +4,10 @@ use std::hint::black_box;
 use std::time::Instant;
 
 use crate::fields::WORDS;
-use crate::proved::{raw, LONGEST_TEXT};
+use crate::proved::{raw, room_for};
 use crate::race::recordings::Tape;
 use crate::race::timing::{spread, Spread, TURNS};
+use crate::recordings::USUAL;
 
 /// What the rounds of a row gave: bytes of recording a microsecond, and the ratios of the times:
 /// the proved side with a lent output, and with an output allocated as the peer's is.
@@ -20,7 +21,7 @@ pub struct Speeds {
 
 /// Times a row for so many rounds.
 pub fn time(tape: &Tape, rounds: usize) -> Speeds {
-    let mut out = Vec::with_capacity(LONGEST_TEXT);
+    let mut out = Vec::with_capacity(room_for(USUAL));
     let rounds: Vec<Round> = (0..rounds).map(|_| round(tape, &mut out)).collect();
     let over = |number: fn(&Round) -> f64| spread(rounds.iter().map(number).collect());
     let bytes = tape.bytes() as f64;

@@ -3,11 +3,11 @@ use Prim.Native.Nat.{ℕ}
 use mathlib.Core.Bool.{cond, _&&_}
 use mathlib.Core.List.{List, [], _∷_}
 use lib.ListN.{length}
-use lib.Dec.{eqb, ltb}
+use lib.Dec.{eqb}
 use Rattle.rules.specs.Words.{word, SR0, relocates}
 use Rattle.rules.specs.declared.Event.{Event}
-use Rattle.rules.specs.declared.Refusal.the-variants.{Store, Long}
-use Rattle.records.specs.Recordings.{recordsFrom}
+use Rattle.rules.specs.declared.Refusal.the-variants.{Store}
+use Rattle.pieces.specs.Limit.{recordsOf}
 use Rattle.widening.specs.Runs.{calm}
 use Rattle.auditing.specs.Verdicts.{verdictOf}
 use Rattle.auditing.specs.declared.Verdict.{Verdict}
@@ -52,10 +52,10 @@ abbrev pub courseOf : Run → Course × List ℕ
 courseOf q =
     (record { kept = keptFrom (q .points) (q .at) (q .store); broken = lastBroken (q .points); at = q .at; ending = q .ending }, q .store)
 
--- 1 and then 13; or the report, with the last store's map
+-- the report of a course, with the last store's map
+abbrev pub reported : Course × List ℕ → Audited × List ℕ
+reported c = (Done (record { course = c .0; map = partingOf (c .1) }), c .1)
+
+-- the audit of a whole recording: 1 is tested first
 unfoldable pub auditOf : List ℕ → List ℕ → Audited × List ℕ
-auditOf l r =
-    let c = courseOf (run (recordsFrom r 0) 0 l) in
-    cond (eqb (length l) 100)
-    (cond (ltb 32768 (length r)) (Refused Long, l) (Done (record { course = c .0; map = partingOf (c .1) }), c .1))
-    (Refused Store, l)
+auditOf l r = cond (eqb (length l) 100) (reported (courseOf (run (recordsOf r) 0 l))) (Refused Store, l)

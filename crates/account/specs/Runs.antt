@@ -29,7 +29,7 @@ ended at l x = record { points = []; at = at; store = l; ending = x }
 abbrev pub before : Point → Run → Run
 before p q = record { points = p ∷ q .points; at = q .at; store = q .store; ending = q .ending }
 
--- from an offset on: an event and then the next record, the end, or a record that is refused by 11 or 12
+-- from an offset on: an event and then the next record, the end, or a refusal by 11, 12 or 13
 abbrev pub run : Records → ℕ → List ℕ → Run
 run (event e next rest) at l = before (point at l e) (run rest next (step l e .1))
 run end at l = ended at l All

@@ -1,17 +1,19 @@
-// The audit of a whole recording for demand 3: from where on it kept the premises, which record broke them last,
-// how it ended, and whether the last map keeps the modes apart.
+// The audit of a recording for demand 3, a piece at a time: from where on it kept the premises, which record broke them
+// last, how it ended, and whether the last map keeps the modes apart.
 
 ghost use mathlib.Core.Path.{_≡_};
+ghost use mathlib.Core.List.{_++_};
+ghost use Prim.Native.Nat.{_+_, _<_};
 ghost use lib.ListN.{length};
-ghost use Rattle.rules.specs.Words.{relocates};
-ghost use Rattle.records.specs.Recordings.{recordsFrom};
-ghost use Rattle.account.specs.Runs.{run};
-ghost use Rattle.account.specs.Reports.{courseOf, auditOf};
+ghost use Rattle.rules.specs.Words.{word, SR0, relocates};
+ghost use Rattle.pieces.specs.Limit.{seenFrom};
 ghost use Rattle.account.specs.Turns.{fresh as freshOf, orFresh, keptAfter, brokenAfter};
+ghost use Rattle.account.specs.Surveys.{begins, howBy, trail, going, surveyed, reportOf};
 use auditing::Reason;
 use auditing::Verdict;
 use meetings::Parting;
-use records::Cursor;
+use pieces::Begun;
+use pieces::How;
 use records::Found;
 use rules::Refusal;
 
@@ -27,7 +29,7 @@ pub enum Broken {
     Nowhere,
 }
 
-// How a run ended: after all records, or stopped by 11 or 12.
+// How a run ended: after all records, or stopped by 11, 12 or 13.
 pub enum Ending {
     All,
     Stopped(Refusal),
@@ -46,15 +48,21 @@ pub struct Report {
     pub map: Parting,
 }
 
-// A report, or refused by 1 or 13.
+// What the records so far tell, with the state between two pieces.
+pub struct Survey {
+    pub begun: Begun,
+    pub kept: Kept,
+    pub broken: Broken,
+    pub ending: Ending,
+}
+
+// A report, or refused by 1.
 pub enum Audited {
     Done(Report),
     Refused(Refusal),
 }
 
 const WORDS: usize = 100;
-
-const LIMIT: usize = 32768;
 
 // Kept from here on, if relocation is on.
 fn fresh(sr0: u16, at: usize) -> Kept
@@ -96,17 +104,26 @@ fn broken_after(broken: Broken, verdict: Verdict, at: usize) -> Broken
     }
 }
 
-// Record by record, to the end or to a record that can't be read.
-fn survey(s: &mut [u16], recording: &[u8]) -> Course
-    requires { ⌜ length (now s) ≡ 100 ⌝ }
-    ensures { λ r. ⌜ (r, now (s .exit)) ≡ courseOf (run (recordsFrom (now (recording .entry)) 0) 0 (now (s .entry))) ⌝ }
+// Record by record, of the bytes held and those of the piece, to their end or to a record that can't be read.
+// `base` is the offset of the first of them.
+fn survey_records(
+    s: &mut [u16],
+    front: &[u8],
+    back: &[u8],
+    beyond: bool,
+    last: bool,
+    base: usize,
+    kept_so_far: Kept,
+    broken_so_far: Broken,
+) -> Course
+    requires { ⌜ (length (now s) ≡ 100) × (base + length (now front ++ now back) < 18446744073709551616) ⌝ }
+    ensures { λ r. ⌜ (r, now (s .exit)) ≡ trail base (seenFrom beyond last (now (front .entry) ++ now (back .entry)) 0) 0 «kept_so_far» «broken_so_far» (now (s .entry)) ⌝ }
 {
     let mut at = 0;
-    let mut kept = fresh(s[96], 0);
-    let mut broken = Broken::Nowhere;
+    let mut kept = kept_so_far;
+    let mut broken = broken_so_far;
     loop {
-        let cursor = Cursor { at };
-        let found = cursor.read(recording);
+        let found = pieces::read(front, back, beyond, last, at);
         match found {
             Found::End => {
                 return Course {
@@ -127,25 +144,131 @@ fn survey(s: &mut [u16], recording: &[u8]) -> Course
             Found::Whole(event, next) => {
                 let verdict = auditing::widens(s, event);
                 kt11c::apply(s, event);
-                kept = kept_after(kept, verdict, s[96], next.at);
-                broken = broken_after(broken, verdict, at);
+                kept = kept_after(kept, verdict, s[96], base + next.at);
+                broken = broken_after(broken, verdict, base + at);
                 at = next.at;
             }
         }
     }
 }
 
-// The audit of a recording from a lent store, which is left as the run leaves it. 1 and then 13 are tested first.
-pub fn audit(s: &mut [u16], recording: &[u8]) -> Audited
-    ensures { λ r. ⌜ (r, now (s .exit)) ≡ auditOf (now (s .entry)) (now (recording .entry)) ⌝ }
+fn how_by(ending: Ending) -> How
+    ensures { λ r. ⌜ r ≡ howBy ending ⌝ }
+{
+    match ending {
+        Ending::All => How::Spent,
+        Ending::Stopped(_) => How::Stopped,
+    }
+}
+
+// a store's SR0, 0 where it is too short to have one
+fn sr0(s: &[u16]) -> u16
+    ensures { λ r. ⌜ r ≡ word (now (s .entry)) SR0 ⌝ }
+{
+    if s.len() <= 96 {
+        return 0;
+    }
+    s[96]
+}
+
+// Before the first byte of a recording.
+pub fn begin(s: &[u16]) -> Survey
+    ensures { λ r. ⌜ r ≡ begins (now (s .entry)) ⌝ }
+{
+    let word = sr0(s);
+    Survey {
+        begun: pieces::fresh(),
+        kept: fresh(word, 0),
+        broken: Broken::Nowhere,
+        ending: Ending::All,
+    }
+}
+
+// the course of a piece's records, where the run is not over: 1 is tested first
+fn survey_piece(
+    s: &mut [u16],
+    begun: Begun,
+    kept: Kept,
+    broken: Broken,
+    piece: &[u8],
+    last: bool,
+) -> Course
+    ensures { λ r. ⌜ (r, now (s .exit)) ≡ trail (begun .at) (going begun (now (piece .entry)) last (now (s .entry))) 0 kept broken (now (s .entry)) ⌝ }
+{
+    if s.len() != WORDS {
+        return Course {
+            kept,
+            broken,
+            at: 0,
+            ending: Ending::Stopped(Refusal::Store),
+        };
+    }
+    let window = pieces::inside(begun, piece);
+    let n = window.front;
+    let m = window.back;
+    let held = begun.held;
+    let bytes = held.bytes;
+    survey_records(
+        s,
+        &bytes[..n],
+        &piece[..m],
+        window.beyond,
+        last,
+        begun.at,
+        kept,
+        broken,
+    )
+}
+
+// The audit with a piece of the recording more, and whether it is the last. The store is left as the records so far leave it.
+pub fn feed(s: &mut [u16], so_far: Survey, piece: &[u8], last: bool) -> Survey
+    ensures { λ r. ⌜ (r, now (s .exit)) ≡ surveyed (now (s .entry)) «so_far» (now (piece .entry)) last ⌝ }
+{
+    let begun = so_far.begun;
+    let kept = so_far.kept;
+    let broken = so_far.broken;
+    if begun.over {
+        let reached = pieces::land(begun, piece, true, 0, How::Spent);
+        let ending = so_far.ending;
+        let after = reached.begun;
+        return Survey {
+            begun: after,
+            kept,
+            broken,
+            ending,
+        };
+    }
+    let course = survey_piece(s, begun, kept, broken, piece, last);
+    let ending = course.ending;
+    let reached = pieces::land(begun, piece, last, course.at, how_by(ending));
+    let kept = course.kept;
+    let broken = course.broken;
+    let after = reached.begun;
+    Survey {
+        begun: after,
+        kept,
+        broken,
+        ending,
+    }
+}
+
+// The report of an audit that is at its end, from the store as it was left: refused by 1, or the course and the store's map.
+pub fn finish(s: &[u16], survey: Survey) -> Audited
+    ensures { λ r. ⌜ r ≡ reportOf (now (s .entry)) survey ⌝ }
 {
     if s.len() != WORDS {
         return Audited::Refused(Refusal::Store);
     }
-    if LIMIT < recording.len() {
-        return Audited::Refused(Refusal::Long);
-    }
-    let course = survey(s, recording);
+    let begun = survey.begun;
+    let kept = survey.kept;
+    let broken = survey.broken;
+    let ending = survey.ending;
+    let course = Course {
+        kept,
+        broken,
+        at: begun.at,
+        ending,
+    };
     let map = meetings::apart(s);
     Audited::Done(Report { course, map })
 }

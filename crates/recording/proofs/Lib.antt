@@ -1,3 +1,3 @@
 pub mod Reached
 pub mod Ahead
-pub mod Whole
+pub mod Pieces

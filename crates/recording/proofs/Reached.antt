@@ -1,4 +1,4 @@
--- How far a step has filled its output: `whole` is what it will have written in the end, `q` what is still to come of that.
+-- How far a feed has filled its output: `whole` is what it will have written in the end, `q` what is still to come of that.
 use mathlib.Core.Path.{_≡_, refl, ap, sym, _∙_}
 use mathlib.Core.List.{List, [], _++_, append-assoc, append-nil}
 use Prim.Native.Nat.{ℕ, _+_, _-_, _≤_}
@@ -6,8 +6,9 @@ use native.Mathlib.Omega.{arith}
 use lib.ListN.{length, take, drop, length-append, take-append-drop}
 use lib.Seq.{sets, sets-eq, length-sets, take-at, drop-at, drop-drop, length-take-le}
 use Rattle.lines.specs.Lines.{Text}
-use Rattle.transcript.specs.Steps.{Stretch, stretch, after, shown}
-use Rattle.transcript.specs.declared.Place.{Place}
+use Rattle.pieces.specs.declared.How.{How}
+use Rattle.transcript.specs.Feeding.{Stretch, stretch, after}
+use Rattle.recording.specs.Parts.{stepped, shown}
 
 pub record Reached (whole : Stretch) (out₀ out : List ℕ) (n : ℕ) (q : Stretch) : Type 0 where
   pub text : whole ≡ after (take n out) q
@@ -46,7 +47,7 @@ module _ (out : List ℕ) (n : ℕ) (t : Text) (h : n + length t ≤ length out)
       }
 
 -- nothing still to come
-pub finish : (whole : Stretch) (out₀ out : List ℕ) (n : ℕ) (p : Place) (l : List ℕ) → Reached whole out₀ out n (stretch [] p l)
-    → (record { place = p; written = n }, l, out) ≡ shown whole out₀
-finish whole out₀ out n p l s =
+pub finish : (whole : Stretch) (out₀ out : List ℕ) (n at : ℕ) (how : How) (l : List ℕ) → Reached whole out₀ out n (stretch [] at how l)
+    → (stepped at how n, l, out) ≡ shown whole out₀
+finish whole out₀ out n at how l s =
     rw (s .text, append-nil, length-take-le n out (s .within), ← s .beyond, take-append-drop n out)

@@ -1,20 +1,36 @@
--- What the parts of a step do: one event, the last line, and the records from a place on.
+-- What the parts of a feed do: one event, the last line, and the records from a place on.
 use Prim.Native.Nat.{ℕ, _+_, _-_}
-use mathlib.Core.Bool.{false, cond, not}
-use mathlib.Core.List.{List}
-use lib.ListN.{length}
+use mathlib.Core.Bool.{Bool, cond}
+use mathlib.Core.List.{List, _++_}
+use lib.ListN.{length, drop}
 use lib.Dec.{leb, eqb}
 use Rattle.rules.specs.Step.{step}
 use Rattle.rules.specs.declared.Event.{Event}
-use Rattle.records.specs.Recordings.{recordsFrom}
+use Rattle.rules.specs.declared.Refusal.the-variants.{Store}
+use Rattle.records.specs.Recordings.{refusal}
 use Rattle.lines.specs.Lines.{Text, lineOf, placed}
-use Rattle.transcript.specs.Turns.{placeAt, turns}
-use Rattle.transcript.specs.Steps.{Stretch, fitting}
-use Rattle.transcript.specs.declared.Stepped.{Stepped}
+use Rattle.pieces.specs.Limit.{seenFrom}
+use Rattle.pieces.specs.Begun.{recordsIn}
+use Rattle.pieces.specs.declared.Begun.{Begun}
+use Rattle.pieces.specs.declared.How.{How}
+use Rattle.pieces.specs.declared.How.the-variants.{Full, Stopped}
+use Rattle.transcript.specs.Feeding.{Stretch, fitting}
+use Rattle.recording.specs.declared.Stepped.{Stepped}
 
--- a step that goes record by record, from a place on
-abbrev pub ahead : List ℕ → ℕ → List ℕ → ℕ → Stretch
-ahead r at l room = fitting room (placeAt at false) l (turns (recordsFrom r at) at l)
+abbrev pub stepped : ℕ → How → ℕ → Stepped
+stepped at how written = record { at = at; how = how; written = written }
+
+-- what a stretch shows, the store afterwards, and the output afterwards: the text, and beyond it the bytes that were there
+abbrev pub shown : Stretch → List ℕ → Stepped × List ℕ × List ℕ
+shown q out = (stepped (q .at) (q .how) (length (q .text)), q .store, q .text ++ drop (length (q .text)) out)
+
+-- the records of some bytes inside the limit, from a place on
+abbrev pub ahead : Bool → Bool → List ℕ → ℕ → List ℕ → ℕ → Stretch
+ahead beyond last s at l room = fitting room (seenFrom beyond last s at) at l
+
+-- the records of a piece, where the run is not over
+unfoldable pub going : Begun → List ℕ → Bool → List ℕ → ℕ → Stretch
+going b piece last l room = fitting room (cond (eqb (length l) 100) (recordsIn b piece last) (refusal Store)) 0 l
 
 -- an event and its line at a place of the output, where the line fits: how many bytes are written, the store and the output afterwards
 unfoldable pub taken : List ℕ → Event → List ℕ → ℕ → ℕ × List ℕ × List ℕ
@@ -24,8 +40,8 @@ taken l e out written =
     let put = placed out written line in
     cond (leb (length line) (length out - written)) (put .0, s .1, put .1) (0, l, out)
 
--- a step's last line at a place of the output, after which it is over, if the line fits
+-- a feed's last line at a place of the output: stopped, if the line fits
 unfoldable pub ended : List ℕ → ℕ → ℕ → Text → Stepped × List ℕ
 ended out at written line =
     let put = placed out written line in
-    (record { place = placeAt at (not (eqb (put .0) 0)); written = written + put .0 }, put .1)
+    (stepped at (cond (eqb (put .0) 0) Full Stopped) (written + put .0), put .1)

@@ -1,26 +1,33 @@
-// A whole recording replayed from a lent store into a lent output (01, "Recordings"), in steps where the output is short.
+// A recording replayed from a lent store into a lent output (01, "Recordings"; request E4), a piece at a time, and in feeds where
+// the output is short.
 
 use lines::LONGEST;
-use records::Cursor;
+use pieces::Begun;
+use pieces::How;
 use records::Found;
 use rules::Answer;
 use rules::Event;
 use rules::Refusal;
-use transcript::Place;
-use transcript::Stepped;
+use transcript::Fed;
 ghost use mathlib.Core.Path.{_≡_};
 ghost use Prim.Native.Nat.{_≤_};
+ghost use mathlib.Core.List.{_++_};
 ghost use lib.ListN.{length};
 ghost use lib.Dec.{ltb, eqb};
 ghost use mathlib.Core.Bool.{cond};
 ghost use Rattle.rules.specs.Paper.{X, number};
 ghost use Rattle.lines.specs.Lines.{lineOf, longest};
-ghost use Rattle.transcript.specs.Steps.{shown, replayed};
-ghost use Rattle.recording.specs.Parts.{taken, ended, ahead};
+ghost use Rattle.transcript.specs.Feeding.{fed};
+ghost use Rattle.recording.specs.Parts.{taken, ended, ahead, going, shown};
+
+// How far a feed went through the records: the place, how it ended there, and how many bytes of the output were written.
+struct Stepped {
+    at: usize,
+    how: How,
+    written: usize,
+}
 
 const WORDS: usize = 100;
-
-const LIMIT: usize = 32768;
 
 // the words of a store, into another
 fn copy(from: &[u16], to: &mut [u16])
@@ -71,28 +78,43 @@ fn stop(out: &mut [u8], at: usize, written: usize, refusal: Refusal) -> Stepped
     requires { ⌜ written ≤ length (now out) ⌝ }
     ensures { λ r. ⌜ (r, now (out .exit)) ≡ ended (now (out .entry)) at written (lineOf (X (number refusal))) ⌝ }
 {
-    let n = lines::put(out, written, Answer::Refused(refusal));
+    let put = lines::put(out, written, Answer::Refused(refusal));
+    if put == 0 {
+        return Stepped {
+            at,
+            how: How::Full,
+            written,
+        };
+    }
     Stepped {
-        place: Place { at, over: n != 0 },
-        written: written + n,
+        at,
+        how: How::Stopped,
+        written: written + put,
     }
 }
 
-// record by record, while the next line fits
-fn replay_records(s: &mut [u16], recording: &[u8], start: usize, out: &mut [u8]) -> Stepped
+// record by record, of the bytes held and those of the piece, while the next line fits
+fn replay_records(
+    s: &mut [u16],
+    front: &[u8],
+    back: &[u8],
+    beyond: bool,
+    last: bool,
+    out: &mut [u8],
+) -> Stepped
     requires { ⌜ length (now s) ≡ 100 ⌝ }
-    ensures { λ r. ⌜ (r, now (s .exit), now (out .exit)) ≡ shown (ahead (now (recording .entry)) start (now (s .entry)) (length (now (out .entry)))) (now (out .entry)) ⌝ }
+    ensures { λ r. ⌜ (r, now (s .exit), now (out .exit)) ≡ shown (ahead beyond last (now (front .entry) ++ now (back .entry)) 0 (now (s .entry)) (length (now (out .entry)))) (now (out .entry)) ⌝ }
 {
     let mut spare = [0u16; 100];
-    let mut at = start;
+    let mut at = 0;
     let mut written = 0;
     loop {
-        let cursor = Cursor { at };
-        let found = cursor.read(recording);
+        let found = pieces::read(front, back, beyond, last, at);
         match found {
             Found::End => {
                 return Stepped {
-                    place: Place { at, over: true },
+                    at,
+                    how: How::Spent,
                     written,
                 };
             }
@@ -103,7 +125,8 @@ fn replay_records(s: &mut [u16], recording: &[u8], start: usize, out: &mut [u8])
                 let n = take_event(s, event, out, written, &mut spare);
                 if n == 0 {
                     return Stepped {
-                        place: Place { at, over: false },
+                        at,
+                        how: How::Full,
                         written,
                     };
                 }
@@ -114,24 +137,36 @@ fn replay_records(s: &mut [u16], recording: &[u8], start: usize, out: &mut [u8])
     }
 }
 
-// One step of a replay: from how far it came, as many whole lines as the output holds.
-// 1 and then 13 are tested first, and give their one line.
-pub fn replay(s: &mut [u16], recording: &[u8], from: Place, out: &mut [u8]) -> Stepped
-    ensures { λ r. ⌜ (r, now (s .exit), now (out .exit)) ≡ replayed (now (s .entry)) (now (recording .entry)) from (now (out .entry)) ⌝ }
+// the records of a piece, where the run is not over: 1 is tested first
+fn replay_piece(s: &mut [u16], begun: Begun, piece: &[u8], last: bool, out: &mut [u8]) -> Stepped
+    ensures { λ r. ⌜ (r, now (s .exit), now (out .exit)) ≡ shown (going begun (now (piece .entry)) last (now (s .entry)) (length (now (out .entry)))) (now (out .entry)) ⌝ }
 {
-    let at = from.at;
-    let over = from.over;
-    if over {
-        return Stepped {
-            place: from,
+    if s.len() != WORDS {
+        return stop(out, 0, 0, Refusal::Store);
+    }
+    let window = pieces::inside(begun, piece);
+    let n = window.front;
+    let m = window.back;
+    let held = begun.held;
+    let bytes = held.bytes;
+    replay_records(s, &bytes[..n], &piece[..m], window.beyond, last, out)
+}
+
+// One feed of a replay: a piece of the recording after the bytes of a begun record, and whether it is the last. As many whole lines
+// as the output holds are written; what is not taken of the piece is for the next feed.
+pub fn feed(s: &mut [u16], begun: Begun, piece: &[u8], last: bool, out: &mut [u8]) -> Fed
+    ensures { λ r. ⌜ (r, now (s .exit), now (out .exit)) ≡ fed (now (s .entry)) begun (now (piece .entry)) last (now (out .entry)) ⌝ }
+{
+    if begun.over {
+        return Fed {
+            reached: pieces::land(begun, piece, true, 0, How::Spent),
             written: 0,
         };
     }
-    if s.len() != WORDS {
-        return stop(out, at, 0, Refusal::Store);
+    let step = replay_piece(s, begun, piece, last, out);
+    let how = step.how;
+    Fed {
+        reached: pieces::land(begun, piece, last, step.at, how),
+        written: step.written,
     }
-    if LIMIT < recording.len() {
-        return stop(out, at, 0, Refusal::Long);
-    }
-    replay_records(s, recording, at, out)
 }

@@ -1,22 +1,25 @@
-// Recordings replayed one after the other: every kind of record, every refusal, and the edges of 13.
-// Above each stand its lines, worked out by hand from document 01 and request E1; the file `stdout` has them all.
+// Recordings replayed one after the other: every kind of record, every refusal, the edges of 13, and 01's whole case cut at
+// every place. Above each stand its lines, worked out by hand from document 01 and requests E1 and E4; the file `stdout` has
+// them all.
 
 use libc::STDOUT_FILENO;
-use transcript::Place;
+use pieces::Begun;
 ghost use mathlib.Core.Path.{_≡_};
 ghost use lib.ListN.{length};
 
-// the lines of one step from a store, into an output that is long enough for them
-fn show(registers: &mut [u16], recording: &[u8]) {
+// the lines of one feed from a state, into an output that is long enough for them; the state then
+fn feed(registers: &mut [u16], begun: Begun, piece: &[u8], last: bool) -> Begun {
     let mut text = io::buffer();
-    let step = recording::replay(
-        registers,
-        recording,
-        Place { at: 0, over: false },
-        &mut text,
-    );
+    let step = recording::feed(registers, begun, piece, last, &mut text);
     let n = step.written;
     io::write_all(STDOUT_FILENO, &text[..n]);
+    let reached = step.reached;
+    reached.begun
+}
+
+// the lines of a whole recording from a store
+fn show(registers: &mut [u16], recording: &[u8]) {
+    feed(registers, pieces::fresh(), recording, true);
 }
 
 // every kind, relocation off
@@ -125,31 +128,92 @@ fn empty() {
     show(&mut registers, b"");
 }
 
-fn at_limit() -> [u8; 32768]
-    ensures { λ r. ⌜ 32768 ≡ length r ⌝ }
-{
-    [0; 32768]
-}
-
-fn over_limit() -> [u8; 32769]
-    ensures { λ r. ⌜ 32769 ≡ length r ⌝ }
-{
-    [0; 32769]
-}
-
-// the edges of 13: 32,768 bytes, none of them a kind, are replayed; one more is too many
-fn longest() {
+// the last bytes of a recording, after so many others
+fn show_from(at: usize, piece: &[u8]) {
     let mut registers = [0u16; 100];
-    let bytes = at_limit();
-    // X 11
-    show(&mut registers, &bytes);
+    let none = pieces::fresh();
+    let held = none.held;
+    let begun = Begun {
+        held,
+        at,
+        over: false,
+    };
+    feed(&mut registers, begun, piece, true);
 }
 
-fn too_long() {
+// the edges of 13: of 16,777,216 bytes one or none is left
+fn limit() {
+    // D: the last record is whole
+    show_from(16_777_215, b"\x07");
+    // D, X 13
+    show_from(16_777_215, b"\x07\x07");
+    // X 12: it is cut, and nothing comes after it
+    show_from(16_777_215, b"\x02");
+    // X 13: it crosses the limit, though the end cuts it too
+    show_from(16_777_215, b"\x02\x7A");
+    // X 11: an unknown kind inside the limit
+    show_from(16_777_215, b"\x00\x07");
+    // nothing
+    show_from(16_777_216, b"");
+    // X 13: an unknown kind beyond it
+    show_from(16_777_216, b"\x00");
+}
+
+// 01's whole case
+fn whole_case() -> [u8; 29]
+    ensures { λ r. ⌜ 29 ≡ length r ⌝ }
+{
+    [
+        0x03,
+        0xEE,
+        0xF4,
+        0x03,
+        0x2E,
+        0x07,
+        0x03,
+        0xCE,
+        0xF4,
+        0x03,
+        0x06,
+        0x7F,
+        0x03,
+        0x7A,
+        0xFF,
+        0x03,
+        0x01,
+        0x00,
+        0x01,
+        0x00,
+        0x00,
+        0x00,
+        0x00,
+        0x2E,
+        0xEF,
+        0x02,
+        0xCE,
+        0xF4,
+        0x03,
+    ]
+}
+
+// a whole recording cut in two at a place
+fn show_cut(recording: &[u8], at: usize) {
+    if recording.len() < at {
+        return;
+    }
     let mut registers = [0u16; 100];
-    let bytes = over_limit();
-    // X 13
-    show(&mut registers, &bytes);
+    let begun = feed(&mut registers, pieces::fresh(), &recording[..at], false);
+    feed(&mut registers, begun, &recording[at..], true);
+}
+
+// It is cut at each of its thirty places: D, D, D, G 355256 - 07, R 077406 each time
+fn cuts() {
+    let recording = whole_case();
+    let mut at = 0;
+    while at < 30 {
+        show_cut(&recording, at);
+        at += 1;
+    }
 }
 
 // a store that is not 100 words
@@ -168,7 +232,7 @@ fn main() {
     only_a_kind();
     unknown_at_the_end();
     empty();
-    longest();
-    too_long();
+    limit();
     short_store();
+    cuts();
 }

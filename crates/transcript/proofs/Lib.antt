@@ -1,5 +1,9 @@
-pub mod Count
-pub mod Chains
-pub mod Claims
-pub mod WholeCase
+pub mod Went
+pub mod Left
+pub mod Together
+pub mod Reaching
+pub mod Progress
+pub mod Calls
+pub mod AtOnce
 pub mod Promise
+pub mod WholeCase

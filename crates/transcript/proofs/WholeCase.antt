@@ -9,9 +9,10 @@ use Rattle.rules.specs.Step.{step, accepted}
 use Rattle.records.specs.Records.{eventOf, recordAt}
 use Rattle.records.specs.Recordings.{recordsWithin}
 use Rattle.lines.specs.Lines.{lineOf}
-use Rattle.transcript.specs.Transcript.{turnsFrom}
+use Rattle.pieces.specs.Limit.{recordsOf}
+use Rattle.transcript.specs.Transcript.{told, transcript}
 use Rattle.transcript.specs.Claims.{WholeCase}
 
 pub wholeCase : WholeCase
-unfolding turnsFrom recordsWithin recordAt eventOf lineOf step accepted refusalOf referred illegalMode examined ruled writtenAt lengthError registerAt
+unfolding transcript told recordsOf recordsWithin recordAt eventOf lineOf step accepted refusalOf referred illegalMode examined ruled writtenAt lengthError registerAt
 wholeCase = refl

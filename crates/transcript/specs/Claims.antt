@@ -1,61 +1,110 @@
--- What steps of a replay make together. The proofs are in proofs/.
-use Prim.Native.Nat.{ℕ, _+_, _<_, _≤_}
+-- What feeds make together, however the recording is cut. The proofs are in proofs/.
+use Prim.Native.Nat.{ℕ, _+_, _*_, _<_, _≤_}
 use mathlib.Core.Path.{_≡_}
-use mathlib.Core.Bool.{true, false, cond}
+use mathlib.Core.Bool.{Bool, true, false, _&&_, _||_}
 use mathlib.Core.List.{List, [], _∷_, _++_}
-use lib.ListN.{length, replicate}
+use lib.ListN.{length, take, drop, replicate}
+use lib.Dec.{leb}
 use Rattle.rules.specs.Paper.{G, R, D}
 use Rattle.rules.specs.declared.Served.the-variants.{Page}
 use Rattle.lines.specs.Lines.{Text, lineOf, longest}
-use Rattle.transcript.specs.Turns.{placeAt}
-use Rattle.transcript.specs.Transcript.{turnsFrom, left, transcript}
-use Rattle.transcript.specs.Steps.{Stretch, stepOf, stepsOf}
-use Rattle.transcript.specs.declared.Place.{Place}
+use Rattle.pieces.specs.Limit.{limit}
+use Rattle.pieces.specs.Begun.{fresh, Few, heldCount, Offers}
+use Rattle.pieces.specs.declared.Begun.{Begun}
+use Rattle.transcript.specs.Transcript.{transcript}
+use Rattle.transcript.specs.Feeding.{Stretch, feedOf, reachedBy, left}
 
--- whatever the room, what a step writes and what is then left make what was left before
+-- whatever the room, what a feed writes and what is then left make what was left before. Only the last bytes are said to be the last
 abbrev pub Together : Type 0
 Together =
-    (r : List ℕ) (p : Place) (l : List ℕ) (room : ℕ)
-    → let q = stepOf r p l room in
-    let rest = left r (q .place) (q .store) in
-    (q .text ++ rest .0, rest .1) ≡ left r p l
+    (b : Begun) (piece more : List ℕ) (last : Bool) (l : List ℕ) (room : ℕ)
+    → Few b → (last ≡ true → more ≡ [])
+    → let q = feedOf b piece last l room in
+    let k = reachedBy b piece last q in
+    let rest = left (k .begun) (drop (k .taken) piece ++ more) (q .store) in
+    (q .text ++ rest .0, rest .1) ≡ left b (piece ++ more) l
 
--- it wrote all of the text, it is over, and the store is the last one
-pub record Finished (q : Stretch) (whole : Text × List ℕ) : Type 0 where
-  pub text : q .text ≡ whole .0
-  pub store : q .store ≡ whole .1
-  pub over : q .place .over ≡ true
+-- a call: how many of the bytes still to come are offered, whether they are said to be the last, and the room for text
+pub record Call : Type 0 where
+  pub offer : ℕ
+  pub last : Bool
+  pub room : ℕ
 
--- where the whole text fits, one step writes it
-abbrev pub AtOnce : Type 0
-AtOnce =
-    (r : List ℕ) (p : Place) (l : List ℕ) (room : ℕ)
-    → length (left r p l .0) ≤ room → Finished (stepOf r p l room) (left r p l)
+-- only the last bytes are said to be the last
+abbrev pub lastOf : Call → List ℕ → Bool
+lastOf k r = k .last && leb (length r) (k .offer)
 
--- at most so many steps are still needed: one for each turn left, and one to find that none is
-abbrev pub stepsLeft : List ℕ → Place → List ℕ → ℕ
-stepsLeft r p l = cond (p .over) 0 (1 + length (turnsFrom r p l))
+-- how far calls came: the text so far, the state, the bytes still to come, and the store
+pub record Calls : Type 0 where
+  pub text : Text
+  pub begun : Begun
+  pub rest : List ℕ
+  pub store : List ℕ
+
+abbrev pub before : Text → Calls → Calls
+before t q = record { text = t ++ q .text; begun = q .begun; rest = q .rest; store = q .store }
+
+-- one call after the other: what it does not take is offered again
+unfoldable pub callsOf : List Call → Begun → List ℕ → List ℕ → Calls
+callsOf [] b r l = record { text = []; begun = b; rest = r; store = l }
+callsOf (k ∷ ks) b r l =
+    let piece = take (k .offer) r in
+    let q = feedOf b piece (lastOf k r) l (k .room) in
+    let to = reachedBy b piece (lastOf k r) q in
+    before (q .text) (callsOf ks (to .begun) (drop (to .taken) r) (q .store))
+
+-- however the bytes are cut and whatever the rooms, the text so far and what is left are the uncut recording's
+abbrev pub AnyCut : Type 0
+AnyCut =
+    (ks : List Call) (r l : List ℕ)
+    → let q = callsOf ks fresh r l in
+    let rest = left (q .begun) (q .rest) (q .store) in
+    (q .text ++ rest .0, rest .1) ≡ transcript r l
+
+-- so, once the run is over, the lines and the registers are those of the uncut recording
+abbrev pub Uncut : Type 0
+Uncut = (ks : List Call) (r l : List ℕ) → let q = callsOf ks fresh r l in q .begun .over ≡ true → (q .text, q .store) ≡ transcript r l
 
 -- room for any line
 abbrev pub Roomy : ℕ → Type 0
 Roomy room = longest ≤ room
 
--- a step with room for any line leaves fewer
+-- a call that offers a byte and has room for any line, and whose last bytes are said to be the last
+pub record Able (k : Call) : Type 0 where
+  pub some : 0 < k .offer
+  pub roomy : Roomy (k .room)
+  pub tells : k .last ≡ true
+
+abbrev pub AllAble : List Call → Type 0
+AllAble [] = Unit
+AllAble (k ∷ ks) = Able k × AllAble ks
+
+-- enough of them end the run
+abbrev pub Enough : Type 0
+Enough = (ks : List Call) (r l : List ℕ) → AllAble ks → 2 * length r < length ks → callsOf ks fresh r l .begun .over ≡ true
+
+-- where the whole text fits, one call does
+abbrev pub AtOnce : Type 0
+AtOnce =
+    (r l : List ℕ) (room : ℕ) → length (transcript r l .0) ≤ room
+    → let q = feedOf fresh r true l room in
+    ((q .text, q .store) ≡ transcript r l) × (reachedBy fresh r true q .begun .over ≡ true)
+
+-- what a caller's loop goes by: a feed that offers a byte or says that no more will come, has room for any line and does not end
+-- the run, uses bytes up, of the piece or of those held
 abbrev pub Progress : Type 0
 Progress =
-    (r : List ℕ) (p : Place) (l : List ℕ) (room : ℕ)
-    → p .over ≡ false → Roomy room
-    → let q = stepOf r p l room in stepsLeft r (q .place) (q .store) < stepsLeft r p l
+    (b : Begun) (piece : List ℕ) (last : Bool) (l : List ℕ) (room : ℕ) → Few b → Offers piece last → Roomy room
+    → let k = reachedBy b piece last (feedOf b piece last l room) in
+    k .begun .over ≡ false → heldCount (k .begun) < heldCount b + 2 * k .taken
 
-abbrev pub AllRoomy : List ℕ → Type 0
-AllRoomy [] = Unit
-AllRoomy (room ∷ rooms) = Roomy room × AllRoomy rooms
-
--- enough steps, each with room for any line, write exactly the transcript
-abbrev pub InSteps : Type 0
-InSteps =
-    (r : List ℕ) (l : List ℕ) (rooms : List ℕ)
-    → AllRoomy rooms → length r + 1 < length rooms → Finished (stepsOf r (placeAt 0 false) l rooms) (transcript r l)
+-- and the bytes so far are counted, up to the limit
+abbrev pub Counted : Type 0
+Counted =
+    (b : Begun) (piece : List ℕ) (last : Bool) (l : List ℕ) (room : ℕ) → Few b
+    → let k = reachedBy b piece last (feedOf b piece last l room) in
+    k .begun .over ≡ false → b .at + heldCount b ≤ limit
+    → (k .begun .at + heldCount (k .begun) ≡ b .at + heldCount b + k .taken) × (k .begun .at + heldCount (k .begun) ≤ limit)
 
 -- the whole case of 01, from all registers 0, with the page as request E1 has it
 abbrev pub wholeCaseBytes : List ℕ

@@ -1,4 +1,3 @@
-pub mod Turns
 pub mod Transcript
-pub mod Steps
+pub mod Feeding
 pub mod Claims

@@ -1,14 +1,10 @@
-// What a replay of a recording says (01, "Recordings"): the types. The transcript, the steps that make it and the theorems on
-// them are in specs/, their proofs in proofs/.
+// What a replay of a recording says (01, "Recordings"; request E4): the type of a feed's answer. The transcript, the feeds that
+// make it and the theorems on them are in specs/, their proofs in proofs/.
 
-// How far a replay came: the place of the next record, and whether it is over.
-pub struct Place {
-    pub at: usize,
-    pub over: bool,
-}
+use pieces::Reached;
 
-// What one step did: how far the replay is then, and how many bytes of the output were written.
-pub struct Stepped {
-    pub place: Place,
+// What one feed did: how far it took the piece, and how many bytes of the output were written.
+pub struct Fed {
+    pub reached: Reached,
     pub written: usize,
 }

@@ -14,6 +14,7 @@ use Rattle.records.specs.Kinds.{known, bodyOf}
 use Rattle.records.specs.Records.{eventOf, recordAt}
 use Rattle.records.specs.declared.Found.the-variants.{Whole}
 use Rattle.records.proofs.Laws.{at-whole}
+use Rattle.records.proofs.Parts.{event-drop}
 use Rattle.writer.specs.Bytes.{recordOf}
 use Rattle.writer.specs.Writing.{large}
 use Rattle.trips.specs.Trips.{Held}
@@ -33,9 +34,6 @@ two x h = joined-back 2 x h
 three : (x : ℕ) → x ≤ 0o77777777 → joined 3 x ≡ x
 three x h = joined-back 3 x (omega arith)
 
-plus-assoc : (a b c : ℕ) → a + (b + c) ≡ a + b + c
-plus-assoc a b c = omega arith
-
 -- the event of a record's bytes, at the front
 event-back : (e : Event) (q : List ℕ) → Fits e → Held e → eventOf (byteAt (recordOf e ++ q) 0) (recordOf e ++ q) 1 ≡ e
 unfolding eventOf recordOf joined
@@ -50,11 +48,6 @@ event-back (Change register amount) q f h =
     let b = change-fits register amount f in
     rw (one register (b .0), signed-back amount (b .1))
 event-back Init q f h = refl
-
--- and so at any place
-event-drop : (kind : ℕ) (s : List ℕ) (m at : ℕ) → eventOf kind s (m + at) ≡ eventOf kind (drop m s) at
-unfolding eventOf
-event-drop kind s m at = sym (simp (getD-drop, plus-assoc))
 
 -- a record's length, by its kind
 kind-known : (e : Event) (q : List ℕ) → known (byteAt (recordOf e ++ q) 0) ≡ true

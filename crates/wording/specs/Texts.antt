@@ -1,4 +1,4 @@
--- The report as text, a line for each thing it says. Byte offsets are five decimal digits, blocks four octal ones, refusals two.
+-- The report as text, a line for each thing it says. Byte offsets are eight decimal digits, blocks four octal ones, refusals two.
 use Prim.Native.Nat.{ℕ, _/_, _%_}
 use mathlib.Core.Bool.{cond}
 use mathlib.Core.List.{List, [], _∷_, _++_}
@@ -26,7 +26,7 @@ abbrev pub Text : Type 0
 Text = List ℕ
 
 abbrev pub offsetText : ℕ → Text
-offsetText at = decimal 5 at
+offsetText at = decimal 8 at
 
 abbrev pub refusalText : Refusal → Text
 refusalText r = decimal 2 (number r)
@@ -76,7 +76,7 @@ abbrev pub reportText : Report → Text
 reportText r =
     endText (r .course .ending) (r .course .at) ++ keptText (r .course .kept) ++ brokenText (r .course .broken) ++ mapText (r .map)
 
--- for 13, and for 1, only that it was refused
+-- for 1 only that it was refused
 abbrev pub textOf : Audited → Text
 textOf (Done r) = reportText r
 textOf (Refused r) = chars "end: refused by " ++ refusalText r ++ chars "\n"

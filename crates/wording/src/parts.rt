@@ -43,19 +43,26 @@ fn eights(n: usize) -> u8
     48 + (n % 8) as u8
 }
 
-// a byte's offset: five decimal digits
-pub(crate) fn put_offset(out: &mut [u8], at: usize, n: usize) -> usize
-    requires { ⌜ at + 5 ≤ length (now out) ⌝ }
-    ensures { λ r. ⌜ Wrote (now (out .entry)) at (decimal 5 n) r (now (out .exit)) ⌝ }
+// four decimal digits
+fn put_four(out: &mut [u8], at: usize, n: usize) -> usize
+    requires { ⌜ at + 4 ≤ length (now out) ⌝ }
+    ensures { λ r. ⌜ Wrote (now (out .entry)) at (decimal 4 n) r (now (out .exit)) ⌝ }
 {
     let n1 = n / 10;
     let n2 = n1 / 10;
-    let n3 = n2 / 10;
-    let a = put_char(out, at, tens(n3 / 10));
-    let b = put_char(out, a, tens(n3));
-    let c = put_char(out, b, tens(n2));
-    let d = put_char(out, c, tens(n1));
-    put_char(out, d, tens(n))
+    let a = put_char(out, at, tens(n2 / 10));
+    let b = put_char(out, a, tens(n2));
+    let c = put_char(out, b, tens(n1));
+    put_char(out, c, tens(n))
+}
+
+// a byte's offset: eight decimal digits
+pub(crate) fn put_offset(out: &mut [u8], at: usize, n: usize) -> usize
+    requires { ⌜ at + 8 ≤ length (now out) ⌝ }
+    ensures { λ r. ⌜ Wrote (now (out .entry)) at (decimal 8 n) r (now (out .exit)) ⌝ }
+{
+    let a = put_four(out, at, n / 10000);
+    put_four(out, a, n)
 }
 
 // a block: four octal digits

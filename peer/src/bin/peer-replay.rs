@@ -1,10 +1,15 @@
 //! Replays the recording on standard input, all registers 0 at first, and
 //! writes its text to standard output.
 
-use std::io::{self, Read, Write};
+use std::fs::File;
+use std::io::{self, ErrorKind, Read};
+use std::os::fd::AsFd;
 use std::process::ExitCode;
 
-use peer::{replay, RECORDING_LIMIT};
+use peer::Replay;
+
+/// The bytes of the input buffer; the replay has the output buffer.
+const BUFFER_LENGTH: usize = 4096;
 
 fn main() -> ExitCode {
     match run() {
@@ -17,21 +22,41 @@ fn main() -> ExitCode {
 }
 
 fn run() -> Result<(), String> {
-    let recording = read_recording().map_err(|e| format!("cannot read standard input: {e}"))?;
-    let text = replay(&mut [0; 100], &recording);
-    write_text(&text).map_err(|e| format!("cannot write standard output: {e}"))
+    let mut store = [0; 100];
+    let mut replay = Replay::new(&mut store, io::stdout().lock());
+    let mut input = open_input().map_err(cannot_read)?;
+    let mut buffer = [0; BUFFER_LENGTH];
+    while !replay.is_over() {
+        let length = read_piece(&mut input, &mut buffer).map_err(cannot_read)?;
+        if length == 0 {
+            break;
+        }
+        let piece = &buffer[..length];
+        replay.feed(piece).map_err(cannot_write)?;
+    }
+    replay.finish().map(drop).map_err(cannot_write)
 }
 
-/// Reads at most one byte past the limit: that byte decides refusal 13.
-fn read_recording() -> io::Result<Vec<u8>> {
-    let mut recording = Vec::with_capacity(RECORDING_LIMIT + 1);
-    let limit = RECORDING_LIMIT as u64 + 1;
-    io::stdin().lock().take(limit).read_to_end(&mut recording)?;
-    Ok(recording)
+/// Standard input as a plain file: the standard library's own reader would put a
+/// buffer of more than 4,096 bytes in between.
+fn open_input() -> io::Result<File> {
+    Ok(File::from(io::stdin().as_fd().try_clone_to_owned()?))
 }
 
-fn write_text(text: &[u8]) -> io::Result<()> {
-    let mut output = io::stdout().lock();
-    output.write_all(text)?;
-    output.flush()
+/// Reads the next piece and gives its length, which is 0 only at the real end.
+fn read_piece(input: &mut File, buffer: &mut [u8]) -> io::Result<usize> {
+    loop {
+        match input.read(buffer) {
+            Err(error) if error.kind() == ErrorKind::Interrupted => {}
+            result => return result,
+        }
+    }
+}
+
+fn cannot_read(error: io::Error) -> String {
+    format!("cannot read standard input: {error}")
+}
+
+fn cannot_write(error: io::Error) -> String {
+    format!("cannot write standard output: {error}")
 }

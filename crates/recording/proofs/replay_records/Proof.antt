@@ -1,33 +1,35 @@
--- The loop keeps to the stretch that the step will show: `Reached` holds at each record, and the place moves on.
+-- The loop keeps to the stretch that the feed will show: `Reached` holds at each record, and the place moves on.
 use mathlib.Core.Path.{_≡_, refl, sym, _∙_}
+use mathlib.Core.List.{_++_}
 use Prim.Native.Nat.{_-_}
 use native.Mathlib.Omega.{arith}
 use lib.ListN.{length}
 use borrow.Author.Needs.{needs}
-use Rattle.records.proofs.Laws.{advances}
+use Rattle.pieces.proofs.Seen.{seen-advances}
 use Rattle.recording.specs.Parts.{ahead}
-use Rattle.recording.proofs.Reached.{Reached}
-use Rattle.recording.proofs.Ahead.{begins, ends, refused, takes, leaves}
+use Rattle.recording.proofs.Reached.{Reached, begin}
+use Rattle.recording.proofs.Ahead.{ends, refused, takes, leaves}
 use Rattle.recording.proofs.replay_records.Statement.{statement}
 use Rattle.recording.proofs.replay_records.Tie as tie
 
 abbrev Inv-loop : tie.InvT-loop
-Inv-loop s₀ recording start out₀ spare₀ at₀ written₀ s out spare at written =
-    (length s ≡ 100) × ((length spare ≡ 100) × Reached (ahead recording start s₀ (length out₀)) out₀ out written
-    (ahead recording at s (length out - written)))
+Inv-loop s₀ front back beyond last out₀ spare₀ at₀ written₀ s out spare at written =
+    (length s ≡ 100) × ((length spare ≡ 100) × Reached (ahead beyond last (front ++ back) 0 s₀ (length out₀)) out₀ out written
+    (ahead beyond last (front ++ back) at s (length out - written)))
 
 abbrev μ-loop : tie.MeasureT-loop
-μ-loop s₀ recording start out₀ spare₀ at₀ written₀ s out spare at written = length recording - at
+μ-loop s₀ front back beyond last out₀ spare₀ at₀ written₀ s out spare at written = length (front ++ back) - at
 
 loop-holds : tie.Need-loop-holds Inv-loop μ-loop
 loop-holds c =
-    let a = c .before .before .before .args in
-    (c .before .before .before .pre, (refl, begins (a .recording .now) (a .start) (a .s .now) (a .out .now)))
+    let start = c .before .before .before .before in
+    let a = start .args in
+    (start .pre, (refl, begin (ahead (a .beyond) (a .last) (a .front .now ++ a .back .now) 0 (a .s .now)) (a .out .now)))
 
 same-length : tie.Need-same-length Inv-loop μ-loop
 same-length c =
     let at-loop = c .before .before .before in
-    let at-pre = at-loop .before .before .before .before in
+    let at-pre = at-loop .before .before .before .before .before in
     at-loop .loop .inv .0 ∙ sym (at-pre .pre)
 
 same-length-2 : tie.Need-same-length-2 Inv-loop μ-loop
@@ -36,7 +38,7 @@ same-length-2 c = c .before .before .before .loop .inv .1 .1 .size
 returns : tie.Need-returns Inv-loop μ-loop
 returns c =
     let loop = c .before .before .before .loop in
-    ends _ _ _ _ _ _ _ (sym (c .before .before .read .ensures) ∙ c .enum-told .given .1) (loop .inv .1 .1)
+    ends _ _ _ _ _ _ _ _ _ (loop .inv .1 .1) (sym (c .before .before .read .ensures) ∙ c .enum-told .given .1)
 
 stop-requires : tie.Need-stop-requires Inv-loop μ-loop
 stop-requires c κs = c .before .before .before .before .before .loop .inv .1 .1 .within
@@ -44,7 +46,7 @@ stop-requires c κs = c .before .before .before .before .before .loop .inv .1 .1
 same-length-3 : tie.Need-same-length-3 Inv-loop μ-loop
 same-length-3 c =
     let at-loop = c .before .before .before .before .before .before .before .before in
-    let at-pre = at-loop .before .before .before .before in
+    let at-pre = at-loop .before .before .before .before .before in
     at-loop .loop .inv .0 ∙ sym (at-pre .pre)
 
 same-length-4 : tie.Need-same-length-4 Inv-loop μ-loop
@@ -61,7 +63,7 @@ returns-2 c =
     let at-loop = at-read .before in
     let loop = at-loop .loop in
     let found = sym (at-read .read .ensures) ∙ at-found .found .given .1 in
-    refused _ _ _ _ _ _ _ _ found (loop .inv .1 .1) _ _ (at-stop .stop .ensures)
+    refused _ _ _ _ _ _ _ _ _ (loop .inv .1 .1) _ found _ _ (at-stop .stop .ensures)
 
 take-event-requires : tie.Need-take-event-requires Inv-loop μ-loop
 take-event-requires c κs =
@@ -72,7 +74,7 @@ same-length-5 : tie.Need-same-length-5 Inv-loop μ-loop
 same-length-5 c =
     let at-take-event = c .before .before .before .before .before .before in
     let at-loop = at-take-event .before .before .before .before .before .before .before .before in
-    let at-pre = at-loop .before .before .before .before in
+    let at-pre = at-loop .before .before .before .before .before in
     at-take-event .take-event .kept .0 ∙ at-loop .loop .inv .0 ∙ sym (at-pre .pre)
 
 same-length-6 : tie.Need-same-length-6 Inv-loop μ-loop
@@ -89,14 +91,15 @@ returns-3 c =
     let at-loop = at-read .before in
     let loop = at-loop .loop in
     let found = sym (at-read .read .ensures) ∙ at-found2 .found2 .given .1 in
-    leaves _ _ _ _ _ _ _ _ _ found (loop .inv .1 .1) _ _ _ (at-take-event .take-event .ensures) (c .if1 .taken)
+    leaves _ _ _ _ _ _ _ _ _ _ _ found (loop .inv .1 .1) _ _ _ (at-take-event .take-event .ensures) (c .if1 .taken)
 
 add-written : tie.Need-add-written Inv-loop μ-loop
 add-written c =
     let at-take-event = c .before .before .before .before .before .before in
     let at-read = at-take-event .before .before .before .before .before .before .before in
     let found = sym (at-read .read .ensures) ∙ at-take-event .before .before .before .before .before .found2 .given .1 in
-    let next = takes _ _ _ _ _ _ _ _ _ found (at-read .before .loop .inv .1 .1) _ _ _ (at-take-event .take-event .ensures) (c .if1 .left) in
+    let next = takes _ _ _ _ _ _ _ _ _ _ _ found (at-read .before .loop .inv .1 .1) _ _ _ (at-take-event .take-event .ensures) (c .if1 .left) in
+    let start = at-read .before .before .before .before .before .before in
     omega (arith, next .within, next .size)
 
 loop-less : tie.Need-loop-less Inv-loop μ-loop
@@ -104,7 +107,7 @@ loop-less c =
     let at-found2 = c .before .before .before .before .before .before .before .before .before .before .before in
     let at-read = at-found2 .before .before in
     let found = sym (at-read .read .ensures) ∙ at-found2 .found2 .given .1 in
-    omega (arith, advances _ _ _ _ found)
+    omega (arith, seen-advances _ _ _ _ _ _ found)
 
 loop-again : tie.Need-loop-again Inv-loop μ-loop
 loop-again c =
@@ -115,7 +118,7 @@ loop-again c =
     let loop = at-loop .loop in
     let found = sym (at-read .read .ensures) ∙ at-found2 .found2 .given .1 in (
       at-take-event .take-event .kept .0 ∙ loop .inv .0,
-      (search needs, takes _ _ _ _ _ _ _ _ _ found (loop .inv .1 .1) _ _ _ (at-take-event .take-event .ensures) (c .if1 .left)),
+      (search needs, takes _ _ _ _ _ _ _ _ _ _ _ found (loop .inv .1 .1) _ _ _ (at-take-event .take-event .ensures) (c .if1 .left)),
     )
 
 pub replay-records-spec : {M : Type 1} → statement M

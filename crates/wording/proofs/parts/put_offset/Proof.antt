@@ -1,39 +1,27 @@
--- `put_offset` meets its contract: each digit is written after the one before.
+-- `put_offset` meets its contract: four digits, and four more after them.
+use mathlib.Core.Path.{_≡_, sym, ap, _∙_}
+use mathlib.Core.List.{List, _++_}
+use Prim.Native.Nat.{ℕ, _/_}
+use native.Mathlib.Omega.{arith}
 use borrow.Author.Needs.{needs}
+use Rattle.lines.specs.Digits.{decimal}
 use Rattle.wording.proofs.Chain.{then}
 use Rattle.wording.proofs.parts.put_offset.Statement.{statement}
 use Rattle.wording.proofs.parts.put_offset.Tie as tie
 
+eight : (n : ℕ) → decimal 4 (n / 10000) ++ decimal 4 n ≡ decimal 8 n
+eight n = let e : n / 10000 ≡ n / 10 / 10 / 10 / 10 = omega arith in rw e
+
 returns : tie.Need-returns
 returns c =
-    let at-put-char5 = c .before .before in
-    let at-tens5 = at-put-char5 .before in
-    let at-put-char4 = at-tens5 .before .before .before .before in
-    let at-tens4 = at-put-char4 .before in
-    let at-put-char3 = at-tens4 .before .before .before .before in
-    let at-tens3 = at-put-char3 .before in
-    let at-put-char2 = at-tens3 .before .before .before .before in
-    let at-tens2 = at-put-char2 .before in
-    let at-put-char = at-tens2 .before .before .before .before in
-    let at-tens = at-put-char .before in
-    (then (rw (at-tens .tens .ensures) at (at-put-char .put-char .ensures))
-    (then (rw (at-tens2 .tens2 .ensures) at (at-put-char2 .put-char2 .ensures))
-    (then (rw (at-tens3 .tens3 .ensures) at (at-put-char3 .put-char3 .ensures))
-    (then (rw (at-tens4 .tens4 .ensures) at (at-put-char4 .put-char4 .ensures))
-    (rw (at-tens5 .tens5 .ensures) at (at-put-char5 .put-char5 .ensures))))))
+    let second = c .before .before in
+    let first = second .before .before .before .before in
+    rw (← eight _) (then (first .put-four .ensures) (second .put-four2 .ensures))
 
 pub put-offset-spec : {M : Type 1} → statement M
 put-offset-spec =
     tie.close
     (tie.spec
-    (λ c κs. search needs)
-    (λ c κs. search needs)
-    (λ c κs. search needs)
-    (λ c κs. search needs)
-    (λ c κs. search needs)
-    (λ c κs. search needs)
-    (λ c κs. search needs)
-    (λ c κs. search needs)
     (λ c κs. search needs)
     (λ c κs. search needs)
     (λ c. search needs)

@@ -1,0 +1,11 @@
+pub mod Lists
+pub mod Across
+pub mod Gathered
+pub mod Within
+pub mod Seen
+pub mod Shifted
+pub mod Fronts
+pub mod States
+pub mod Tells
+pub mod Later
+pub mod Landing

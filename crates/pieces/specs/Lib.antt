@@ -1,0 +1,5 @@
+pub mod Limit
+pub mod Moved
+pub mod Held
+pub mod Begun
+pub mod Windows
