@@ -91,11 +91,14 @@ uint32_t kt11c_init(uint16_t *store, size_t words);
  * Each event happens on the store, and its line goes to `out`, while the next line fits what is left of `room`. Where it
  * does not, neither does its event happen, and the bytes from there on are not taken: the next call is given them again.
  * `last` says that nothing comes after this piece; it may be empty. Answers how many bytes of `out` were written; the
- * bytes beyond them stay. With a room of KT11C_LINE bytes or more every call gets on:
+ * bytes beyond them stay. With a room of KT11C_LINE bytes or more every call that offers a byte, or says that none comes
+ * after, gets on:
  *
  *     uint64_t state[KT11C_STATE] = {0};
  *     while (!KT11C_OVER(state)) {
  *         size_t got = fread(piece, 1, sizeof piece, in), at = 0;
+ *         if (got == 0 && ferror(in))
+ *             break;
  *         do {
  *             size_t n = kt11c_feed(store, KT11C_WORDS, state, piece + at, got - at, got == 0, out, sizeof out);
  *             fwrite(out, 1, n, stdout);
@@ -109,7 +112,8 @@ uint32_t kt11c_init(uint16_t *store, size_t words);
  *
  * kt11c_replay is the same for a whole recording in one call, from the record at place `at` on, 0 for the first. With a
  * room of KT11C_TRANSCRIPT bytes it writes the whole transcript of any recording: the longest is that of 4,194,304
- * register reads, which fill the limit, and a byte beyond it: 4,194,304 * 9 + 5 bytes.
+ * register reads, which fill the limit, and a byte beyond it: 4,194,304 * 9 + 5 bytes. It does not say how far it came:
+ * with less room use kt11c_feed.
  *
  * The caller owes the same as above for `piece` and `recording` (which are only read), `state` and `out`; none of them
  * overlap. */

@@ -14,7 +14,7 @@ use crate::trips::{draw, kind, length, FILL, KINDS};
 const ROUNDS: [&str; 5] = [
     "a recording of no event",
     "a recording of one event",
-    "a recording over 32,768 bytes",
+    "a recording over 4,096 bytes",
     "a buffer with no byte to spare",
     "a buffer with bytes to spare",
 ];
@@ -93,7 +93,7 @@ impl Trip {
         }
         met.when("a recording of no event", self.events.is_empty());
         met.when("a recording of one event", self.events.len() == 1);
-        met.when("a recording over 32,768 bytes", bytes > 32_768);
+        met.when("a recording over 4,096 bytes", bytes > 4_096);
         met.when("a buffer with no byte to spare", self.spare == 0);
         met.when("a buffer with bytes to spare", self.spare > 0);
     }

@@ -9,7 +9,6 @@ use lib.ListN.{length}
 use Rattle.rules.specs.Words.{word, SR0, relocates}
 use Rattle.rules.specs.Step.{step}
 use Rattle.rules.specs.declared.Event.{Event}
-use Rattle.rules.specs.declared.Refusal.{Refusal}
 use Rattle.records.specs.Recordings.{Records, event, end, refusal}
 use Rattle.rules.proofs.Length.{length-stays}
 use Rattle.pieces.proofs.Shifted.{shifted}

@@ -1,11 +1,10 @@
 -- However a recording is cut, its audit is the uncut one's: what a piece adds and what the rest then adds is what both add at once.
-use mathlib.Core.Path.{_≡_, refl, sym, ap, _∙_}
-use mathlib.Core.Bool.{Bool, true, false, cond, _||_}
-use mathlib.Core.List.{List, [], _∷_, _++_, append-assoc}
-use Prim.Native.Nat.{ℕ, _+_, _-_, _≤_, min}
+use mathlib.Core.Path.{_≡_, refl, ap, _∙_}
+use mathlib.Core.Bool.{Bool, true}
+use mathlib.Core.List.{List}
+use Prim.Native.Nat.{ℕ, _+_, _-_, _≤_}
 use native.Mathlib.Omega.{arith}
-use lib.Dec.{eqb}
-use lib.ListN.{length, drop, length-take}
+use lib.ListN.{length}
 use Rattle.rules.specs.Words.{word, SR0, relocates}
 use Rattle.rules.specs.Step.{step}
 use Rattle.rules.proofs.Length.{length-stays}
@@ -15,8 +14,8 @@ use Rattle.records.specs.Recordings.{Records, event, end, refusal}
 use Rattle.records.specs.declared.Cursor.{Cursor}
 use Rattle.records.specs.declared.Found.the-variants.{Whole, Refused, End}
 use Rattle.pieces.specs.Limit.{seenAt, seenFrom}
-use Rattle.pieces.proofs.Seen.{everySeen, seen-advances, by-seen}
-use Rattle.pieces.proofs.Shifted.{shifted, shift}
+use Rattle.pieces.proofs.Seen.{seen-advances, by-seen}
+use Rattle.pieces.proofs.Shifted.{shifted}
 use Rattle.pieces.proofs.Fronts.{Front}
 use Rattle.auditing.specs.Verdicts.{verdictOf}
 use Rattle.account.specs.declared.Kept.{Kept}
@@ -26,7 +25,7 @@ use Rattle.account.specs.declared.Ending.the-variants.{All, Stopped}
 use Rattle.account.specs.declared.Course.{Course}
 use Rattle.account.specs.Surveys.{course, trail}
 use Rattle.account.specs.Turns.{keptAfter, brokenAfter}
-use Rattle.account.proofs.Trails.{trail-end, trail-refused, trail-event}
+use Rattle.account.proofs.Trails.{trail-refused, trail-event}
 
 abbrev pub Trail : Type 0
 Trail = Course × List ℕ

@@ -1,15 +1,14 @@
 -- A piece's part of the audit, by the tests that come before the records: over, 1, or the records inside the limit.
-use mathlib.Core.Path.{_≡_, refl, sym, ap, _∙_}
-use mathlib.Core.Bool.{Bool, true, false, cond, _||_}
+use mathlib.Core.Path.{_≡_, ap}
+use mathlib.Core.Bool.{Bool, true, false, cond}
 use mathlib.Core.List.{List, _++_}
-use Prim.Native.Nat.{ℕ, _+_, _-_, _<_, _≤_}
+use Prim.Native.Nat.{ℕ, _+_, _-_, _<_}
 use native.Mathlib.Omega.{arith}
 use lib.ListN.{length, take, length-take}
 use borrow.Author.Tests.{eq-eqb, ne-eqb}
 use Rattle.rules.specs.declared.Refusal.the-variants.{Store}
-use Rattle.records.specs.Recordings.{end, refusal}
-use Rattle.pieces.specs.Limit.{limit, seenFrom}
-use Rattle.pieces.specs.Begun.{joined, allowed, inside, toTell, landed}
+use Rattle.pieces.specs.Limit.{seenFrom}
+use Rattle.pieces.specs.Begun.{joined, allowed, judged, toTell, landed}
 use Rattle.pieces.specs.Windows.{windowOf}
 use Rattle.pieces.specs.declared.Begun.{Begun}
 use Rattle.pieces.specs.declared.Reached.{Reached}
@@ -24,20 +23,20 @@ use Rattle.account.specs.declared.Ending.{Ending}
 use Rattle.account.specs.declared.Ending.the-variants.{All, Stopped}
 use Rattle.account.specs.declared.Course.{Course}
 use Rattle.account.specs.declared.Survey.{Survey}
-use Rattle.account.specs.Surveys.{course, trail, howBy, going, surveyed}
+use Rattle.account.specs.Surveys.{course, trail, howBy, surveyed}
 
-tells-going : (b : Begun) (piece : List ℕ) (last : Bool) (l : List ℕ) → b .over ≡ false → toTell b piece last l ≡ going b piece last l
+tells-going : (b : Begun) (piece : List ℕ) (last : Bool) (l : List ℕ) → b .over ≡ false → toTell b piece last l ≡ judged b piece last l
 unfolding toTell
 tells-going b piece last l o = rw o
 
 module _ (b : Begun) (piece : List ℕ) (last : Bool) (kept : Kept) (broken : Broken) (l : List ℕ) where
-  pub when-store : (length l ≡ 100 → ⊥) → (course kept broken 0 (Stopped Store), l) ≡ trail (b .at) (going b piece last l) 0 kept broken l
+  pub when-store : (length l ≡ 100 → ⊥) → (course kept broken 0 (Stopped Store), l) ≡ trail (b .at) (judged b piece last l) 0 kept broken l
   unfolding trail
   when-store h = rw (ne-eqb (length l) 100 h)
 
   pub when-records : length l ≡ 100 → (w : Window) → w ≡ windowOf b piece
       → trail (b .at) (seenFrom (w .beyond) last (take (w .front) (b .held .bytes) ++ take (w .back) piece) 0) 0 kept broken l
-      ≡ trail (b .at) (going b piece last l) 0 kept broken l
+      ≡ trail (b .at) (judged b piece last l) 0 kept broken l
   unfolding windowOf
   when-records h w e = rw (eq-eqb (length l) 100 h, e, lent b piece)
 
@@ -59,7 +58,7 @@ module _ (l : List ℕ) (v : Survey) (piece : List ℕ) (last : Bool) where
       kept-ending k = rw k
 
   pub when-going : v .begun .over ≡ false → (c : Course) (l' : List ℕ)
-      → (c, l') ≡ trail (v .begun .at) (going (v .begun) piece last l) 0 (v .kept) (v .broken) l
+      → (c, l') ≡ trail (v .begun .at) (judged (v .begun) piece last l) 0 (v .kept) (v .broken) l
       → (how : How) → how ≡ howBy (c .ending) → (r : Reached) → r ≡ landed (v .begun) piece last (c .at) how
       → (record { begun = r .begun; kept = c .kept; broken = c .broken; ending = c .ending }, l') ≡ surveyed l v piece last
   unfolding surveyed
@@ -71,7 +70,7 @@ module _ (l : List ℕ) (v : Survey) (piece : List ℕ) (last : Bool) where
       ) in
       rw (e, k, or-going last (v .begun .over) h, tells h, ended h) (ap shape t)
     where
-      tells : v .begun .over ≡ false → toTell (v .begun) piece last l ≡ going (v .begun) piece last l
+      tells : v .begun .over ≡ false → toTell (v .begun) piece last l ≡ judged (v .begun) piece last l
       tells o = tells-going (v .begun) piece last l o
 
       ended : v .begun .over ≡ false → (x y : Ending) → cond (v .begun .over) x y ≡ y

@@ -25,7 +25,6 @@ use Rattle.account.specs.declared.Broken.{Broken}
 use Rattle.account.specs.declared.Ending.{Ending}
 use Rattle.account.specs.declared.Ending.the-variants.{All, Stopped}
 use Rattle.account.specs.declared.Survey.{Survey}
-use Rattle.account.specs.Runs.{run}
 use Rattle.account.specs.Surveys.{course, trail, howBy, surveyed, courseBy}
 use Rattle.account.proofs.Pieces.{when-over as piece-over}
 use Rattle.account.proofs.Cuts.{Trail, onwards, Trailed, trailed, trail-shifted}

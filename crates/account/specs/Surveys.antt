@@ -1,6 +1,6 @@
 -- The audit of a recording that comes in pieces (request E4): what the records so far tell, and what a piece adds to it.
 use Prim.Native.Nat.{ℕ, _+_}
-use mathlib.Core.Bool.{Bool, true, false, cond, _||_}
+use mathlib.Core.Bool.{Bool, false, cond, _||_}
 use mathlib.Core.List.{List, [], _∷_, _++_}
 use lib.ListN.{length}
 use lib.Dec.{eqb}
@@ -8,8 +8,7 @@ use Rattle.rules.specs.Words.{word, SR0, relocates}
 use Rattle.rules.specs.Step.{step}
 use Rattle.rules.specs.declared.Refusal.the-variants.{Store}
 use Rattle.records.specs.Recordings.{Records, event, end, refusal}
-use Rattle.pieces.specs.Begun.{fresh, recordsIn, toTell, landed}
-use Rattle.pieces.specs.declared.Begun.{Begun}
+use Rattle.pieces.specs.Begun.{fresh, toTell, landed}
 use Rattle.pieces.specs.declared.How.{How}
 use Rattle.pieces.specs.declared.How.the-variants.{Spent, Stopped as Stop}
 use Rattle.auditing.specs.Verdicts.{verdictOf}
@@ -28,7 +27,7 @@ use Rattle.account.specs.Turns.{fresh as freshKept, keptAfter, brokenAft
 abbrev pub course : Kept → Broken → ℕ → Ending → Course
 course kept broken at ending = record { kept = kept; broken = broken; at = at; ending = ending }
 
--- record by record from a place on, with what is carried there; offsets are counted from `base`, the place itself is not
+-- record by record, with what is carried there. A place counts from the first byte held; an offset that is told is `base` more
 unfoldable pub trail : ℕ → Records → ℕ → Kept → Broken → List ℕ → Course × List ℕ
 trail base end at kept broken l = (course kept broken at All, l)
 trail base (refusal r) at kept broken l = (course kept broken at (Stopped r), l)
@@ -44,10 +43,6 @@ begins l = record { begun = fresh; kept = freshKept (relocates (word l SR0)) 0; 
 abbrev pub howBy : Ending → How
 howBy All = Spent
 howBy (Stopped r) = Stop
-
--- the records of a piece, where the run is not over
-abbrev pub going : Begun → List ℕ → Bool → List ℕ → Records
-going b piece last l = cond (eqb (length l) 100) (recordsIn b piece last) (refusal Store)
 
 -- a piece more, and whether it is the last
 unfoldable pub surveyed : List ℕ → Survey → List ℕ → Bool → Survey × List ℕ

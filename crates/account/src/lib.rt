@@ -7,8 +7,9 @@ ghost use Prim.Native.Nat.{_+_, _<_};
 ghost use lib.ListN.{length};
 ghost use Rattle.rules.specs.Words.{word, SR0, relocates};
 ghost use Rattle.pieces.specs.Limit.{seenFrom};
+ghost use Rattle.pieces.specs.Begun.{judged};
 ghost use Rattle.account.specs.Turns.{fresh as freshOf, orFresh, keptAfter, brokenAfter};
-ghost use Rattle.account.specs.Surveys.{begins, howBy, trail, going, surveyed, reportOf};
+ghost use Rattle.account.specs.Surveys.{begins, howBy, trail, surveyed, reportOf};
 use auditing::Reason;
 use auditing::Verdict;
 use meetings::Parting;
@@ -29,7 +30,7 @@ pub enum Broken {
     Nowhere,
 }
 
-// How a run ended: after all records, or stopped by 11, 12 or 13.
+// How a run ended, or stands so far: no record stopped it, or it was stopped by 1, 11, 12 or 13.
 pub enum Ending {
     All,
     Stopped(Refusal),
@@ -105,7 +106,7 @@ fn broken_after(broken: Broken, verdict: Verdict, at: usize) -> Broken
 }
 
 // Record by record, of the bytes held and those of the piece, to their end or to a record that can't be read.
-// `base` is the offset of the first of them.
+// `base` is the offset of the first of them, and the course's `at` counts from it.
 fn survey_records(
     s: &mut [u16],
     front: &[u8],
@@ -193,7 +194,7 @@ fn survey_piece(
     piece: &[u8],
     last: bool,
 ) -> Course
-    ensures { λ r. ⌜ (r, now (s .exit)) ≡ trail (begun .at) (going begun (now (piece .entry)) last (now (s .entry))) 0 kept broken (now (s .entry)) ⌝ }
+    ensures { λ r. ⌜ (r, now (s .exit)) ≡ trail (begun .at) (judged begun (now (piece .entry)) last (now (s .entry))) 0 kept broken (now (s .entry)) ⌝ }
 {
     if s.len() != WORDS {
         return Course {

@@ -3,8 +3,6 @@
 
 use account::Survey;
 use libc::STDOUT_FILENO;
-ghost use mathlib.Core.Path.{_≡_};
-ghost use lib.ListN.{length};
 
 // The report of an audit at its end.
 fn tell(registers: &[u16], survey: Survey) {

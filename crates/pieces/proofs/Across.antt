@@ -1,12 +1,12 @@
 -- A record in two parts of a recording: read from its first seven bytes, it stands as in the whole, so many bytes further on.
-use mathlib.Core.Path.{_≡_, refl, sym, ap, _∙_}
+use mathlib.Core.Path.{_≡_, sym, ap, _∙_}
 use mathlib.Core.List.{List, _++_}
-use Prim.Native.Nat.{ℕ, _+_, _-_, _<_, _≤_, min}
+use Prim.Native.Nat.{ℕ, _+_, _-_, _≤_}
 use native.Mathlib.Omega.{arith}
 use lib.ListN.{length, take, drop, length-drop, length-take, take-append-drop}
 use lib.Seq.{getD-drop, take-all, drop-append-seam}
 use Rattle.records.specs.Bytes.{byteAt}
-use Rattle.records.specs.Kinds.{known, bodyOf}
+use Rattle.records.specs.Kinds.{bodyOf}
 use Rattle.records.specs.Records.{eventOf, recordAt}
 use Rattle.records.specs.declared.Found.{Found}
 use Rattle.records.specs.declared.Found.the-variants.{Whole, Refused, End}

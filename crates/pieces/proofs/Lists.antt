@@ -1,11 +1,11 @@
 -- A front of a list, by the lesser of a count and its length; and of two lists one after the other.
-use mathlib.Core.Path.{_≡_, refl, sym, ap, _∙_}
+use mathlib.Core.Path.{_≡_, refl, ap, _∙_}
 use mathlib.Core.Bool.{Bool, true, false}
 use mathlib.Core.List.{List, _++_, append-nil}
-use Prim.Native.Nat.{ℕ, _+_, _-_, _≤_, min}
+use Prim.Native.Nat.{ℕ, _+_, _-_, min}
 use native.Mathlib.Omega.{arith}
 use lib.Dec.{leb}
-use lib.ListN.{length, take, length-take, length-append}
+use lib.ListN.{length, take}
 use lib.Seq.{take-all, take-append-le, take-append-add}
 use borrow.Author.Tests.{leb-true, leb-false}
 

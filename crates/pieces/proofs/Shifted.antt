@@ -1,15 +1,14 @@
 -- The records from a place on are those of what is left there, so many bytes further on.
-use mathlib.Core.Path.{_≡_, refl, sym, ap, _∙_}
+use mathlib.Core.Path.{_≡_, refl, ap, _∙_}
 use mathlib.Core.Bool.{Bool, true, false, cond}
 use mathlib.Core.List.{List}
 use Prim.Native.Nat.{ℕ, _+_}
 use lib.Dec.{eqb}
 use lib.ListN.{drop}
 use Rattle.rules.specs.Paper.{number}
-use Rattle.rules.specs.declared.Refusal.{Refusal}
 use Rattle.rules.specs.declared.Refusal.the-variants.{Long}
 use Rattle.records.specs.Records.{recordAt}
-use Rattle.records.specs.Recordings.{Records, event, end, refusal, before}
+use Rattle.records.specs.Recordings.{Records, event, end, refusal}
 use Rattle.records.specs.declared.Found.{Found}
 use Rattle.records.specs.declared.Found.the-variants.{Whole, Refused, End}
 use Rattle.pieces.specs.Limit.{ending, seenAt, seenFrom}

@@ -3,16 +3,14 @@
 use mathlib.Core.Path.{_≡_, refl, sym, ap, _∙_}
 use mathlib.Core.Bool.{Bool, true, false}
 use mathlib.Core.List.{List, _++_, append-assoc}
-use Prim.Native.Nat.{ℕ, _+_, _-_, _≤_, min}
+use Prim.Native.Nat.{ℕ, _+_, _-_, _≤_}
 use native.Mathlib.Omega.{arith}
 use lib.Dec.{leb}
-use lib.ListN.{length, take, drop, length-append, length-drop, length-take, drop-of-length-le}
+use lib.ListN.{length, drop, length-append, length-drop, length-take, drop-of-length-le}
 use lib.Seq.{take-all, drop-append-le, drop-append-add}
 use borrow.Author.Tests.{leb-true, leb-false}
-use Rattle.records.specs.declared.Found.the-variants.{End}
-use Rattle.pieces.specs.Limit.{limit, seenAt}
 use Rattle.pieces.specs.Held.{longestRecord, bytesOf, heldOf}
-use Rattle.pieces.specs.Begun.{joined, allowed, inside, beyond, Few, heldCount, paused, holding, landed}
+use Rattle.pieces.specs.Begun.{joined, Few, heldCount, paused, holding, landed}
 use Rattle.pieces.specs.declared.Begun.{Begun}
 use Rattle.pieces.specs.declared.How.{How}
 use Rattle.pieces.specs.declared.How.the-variants.{Full, Spent, Stopped}

@@ -2,7 +2,7 @@
 use mathlib.Core.Path.{_≡_, refl}
 use mathlib.Core.Bool.{Bool, true, false, _||_}
 use mathlib.Core.List.{List}
-use Prim.Native.Nat.{ℕ, _+_, _-_, _≤_}
+use Prim.Native.Nat.{ℕ, _-_, _≤_}
 use native.Mathlib.Omega.{arith}
 use lib.ListN.{length}
 use borrow.Author.Tests.{eq-eqb, ne-eqb}
@@ -11,7 +11,7 @@ use Rattle.records.specs.Bytes.{byteAt}
 use Rattle.records.specs.Recordings.{end, refusal}
 use Rattle.records.specs.declared.Found.the-variants.{End}
 use Rattle.records.proofs.Laws.{at-end, at-unknown, at-cut, at-whole}
-use Rattle.records.proofs.Parts.{Stands, none, unknown, cut, whole, stands, body-most}
+use Rattle.records.proofs.Parts.{Stands, none, unknown, cut, whole, body-most}
 use Rattle.pieces.specs.Limit.{seenAt}
 use Rattle.pieces.specs.Begun.{recordsIn, toTell}
 use Rattle.pieces.specs.declared.Begun.{Begun}

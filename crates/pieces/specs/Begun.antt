@@ -25,10 +25,11 @@ fresh = begun (heldOf []) 0 false
 abbrev pub joined : Begun → List ℕ → List ℕ
 joined b piece = bytesOf (b .held) ++ piece
 
--- those inside the limit, and whether there are others
+-- how many bytes the limit still allows, from the first byte held on
 abbrev pub allowed : Begun → ℕ
 allowed b = limit - b .at
 
+-- the bytes inside the limit, and whether there are others
 abbrev pub inside : Begun → List ℕ → List ℕ
 inside b piece = take (allowed b) (joined b piece)
 
@@ -39,9 +40,13 @@ beyond b piece = ltb (allowed b) (length (joined b piece))
 abbrev pub recordsIn : Begun → List ℕ → Bool → Records
 recordsIn b piece last = seenFrom (beyond b piece) last (inside b piece) 0
 
--- the records that are to be told of: none if the run is over; 1 is tested first
+-- the records of a piece, where the run is not over: 1 is tested first
+abbrev pub judged : Begun → List ℕ → Bool → List ℕ → Records
+judged b piece last l = cond (eqb (length l) 100) (recordsIn b piece last) (refusal Store)
+
+-- the records that are to be told of: none if the run is over
 unfoldable pub toTell : Begun → List ℕ → Bool → List ℕ → Records
-toTell b piece last l = cond (b .over) end (cond (eqb (length l) 100) (recordsIn b piece last) (refusal Store))
+toTell b piece last l = cond (b .over) end (judged b piece last l)
 
 -- how many bytes are held; as code holds them they are at most seven
 abbrev pub heldCount : Begun → ℕ

@@ -6,7 +6,6 @@ use mathlib.Core.List.{List}
 use lib.ListN.{length, take}
 use lib.Dec.{ltb, eqb}
 use Rattle.rules.specs.Paper.{number}
-use Rattle.rules.specs.declared.Refusal.{Refusal}
 use Rattle.rules.specs.declared.Refusal.the-variants.{Long}
 use Rattle.records.specs.Records.{recordAt}
 use Rattle.records.specs.Recordings.{Records, event, end, refusal, before, recordsFrom}

@@ -5,14 +5,14 @@ use records::Found;
 use rules::Refusal;
 ghost use mathlib.Core.Path.{_≡_};
 ghost use mathlib.Core.List.{[], _++_};
-ghost use Prim.Native.Nat.{_+_, _-_, _<_, _≤_, min};
+ghost use Prim.Native.Nat.{_+_, _-_, _<_, min};
 ghost use lib.ListN.{length, drop};
 ghost use Rattle.records.specs.Bytes.{byteAt};
 ghost use Rattle.records.specs.Records.{recordAt};
 ghost use Rattle.records.specs.declared.Found.the-variants.{Refused};
 ghost use Rattle.pieces.specs.Limit.{ending, seenAt, limit};
 ghost use Rattle.pieces.specs.Held.{bytesOf, heldOf};
-ghost use Rattle.pieces.specs.Begun.{fresh as freshOf, paused as pausedOf, holding as holdingOf, closed as closedOf, landed, onward as onwardOf};
+ghost use Rattle.pieces.specs.Begun.{fresh as freshOf, paused as pausedOf, holding as holdingOf, closed as closedOf, landed};
 ghost use Rattle.pieces.specs.Windows.{windowOf};
 ghost use Rattle.pieces.specs.Moved.{moved as movedOf, endOf};
 
@@ -158,7 +158,7 @@ fn read_joined(front: &[u8], back: &[u8], at: usize) -> Found
     moved(cursor.read(back), n)
 }
 
-// a refusal at the end of the bytes: 12 there becomes 13, or waits for more bytes
+// 12 becomes 13 where bytes lie beyond the limit, stays among the last bytes, and else waits for more; other refusals stay
 fn end_refused(refusal: Refusal, beyond: bool, last: bool) -> Found
     ensures { λ r. ⌜ r ≡ ending beyond last (Refused refusal) ⌝ }
 {
@@ -174,6 +174,7 @@ fn end_refused(refusal: Refusal, beyond: bool, last: bool) -> Found
     Found::End
 }
 
+// what was found, as it stands at the end of the bytes inside the limit
 fn end(found: Found, beyond: bool, last: bool) -> Found
     ensures { λ r. ⌜ r ≡ ending beyond last found ⌝ }
 {

@@ -25,7 +25,7 @@ use Rattle.lines.proofs.Lengths.{some}
 use Rattle.transcript.specs.Feeding.{Stretch, stretch, after, fitting}
 use Rattle.recording.specs.Parts.{stepped, shown, taken, ahead, ended}
 use Rattle.recording.specs.declared.Stepped.{Stepped}
-use Rattle.recording.proofs.Reached.{Reached, begin, write, finish}
+use Rattle.recording.proofs.Reached.{Reached, write, finish}
 
 abbrev Outcome : Type 0
 Outcome = ℕ × List ℕ × List ℕ

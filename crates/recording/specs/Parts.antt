@@ -6,11 +6,9 @@ use lib.ListN.{length, drop}
 use lib.Dec.{leb, eqb}
 use Rattle.rules.specs.Step.{step}
 use Rattle.rules.specs.declared.Event.{Event}
-use Rattle.rules.specs.declared.Refusal.the-variants.{Store}
-use Rattle.records.specs.Recordings.{refusal}
 use Rattle.lines.specs.Lines.{Text, lineOf, placed}
 use Rattle.pieces.specs.Limit.{seenFrom}
-use Rattle.pieces.specs.Begun.{recordsIn}
+use Rattle.pieces.specs.Begun.{judged}
 use Rattle.pieces.specs.declared.Begun.{Begun}
 use Rattle.pieces.specs.declared.How.{How}
 use Rattle.pieces.specs.declared.How.the-variants.{Full, Stopped}
@@ -30,7 +28,7 @@ ahead beyond last s at l room = fitting room (seenFrom beyond last s at) at l
 
 -- the records of a piece, where the run is not over
 unfoldable pub going : Begun → List ℕ → Bool → List ℕ → ℕ → Stretch
-going b piece last l room = fitting room (cond (eqb (length l) 100) (recordsIn b piece last) (refusal Store)) 0 l
+going b piece last l room = fitting room (judged b piece last l) 0 l
 
 -- an event and its line at a place of the output, where the line fits: how many bytes are written, the store and the output afterwards
 unfoldable pub taken : List ℕ → Event → List ℕ → ℕ → ℕ × List ℕ × List ℕ

@@ -1,5 +1,5 @@
-// A recording replayed from a lent store into a lent output (01, "Recordings"; request E4), a piece at a time, and in feeds where
-// the output is short.
+// A recording replayed from a lent store into a lent output (01, "Recordings"; request E4): a piece at a time, and a piece in several
+// feeds where the output is short.
 
 use lines::LONGEST;
 use pieces::Begun;

@@ -11,7 +11,6 @@ use borrow.Author.Tests.{ltb-true, ltb-false, leb-true, leb-false}
 use Rattle.records.specs.Bytes.{byteAt, lowFirst}
 use Rattle.records.specs.Kinds.{bodies, known, bodyOf}
 use Rattle.records.specs.Records.{eventOf, recordAt}
-use Rattle.records.specs.declared.Found.the-variants.{Whole, Refused, End}
 use Rattle.records.proofs.Laws.{known-above, at-unknown, at-whole}
 
 -- what stands at a place, with the tests that tell it

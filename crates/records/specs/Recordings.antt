@@ -9,7 +9,8 @@ use Rattle.records.specs.Records.{recordAt}
 use Rattle.records.specs.declared.Found.{Found}
 use Rattle.records.specs.declared.Found.the-variants.{Whole, Refused, End}
 
--- from a place on: an event, the place after it, and what follows there; or the recording's end; or a refusal by 11 or 12
+-- from a place on: an event, the place after it, and what follows there; or the recording's end; or a refusal: `recordAt` gives 11
+-- and 12, and `pieces` adds 13, and 1
 pub data Records : Type 0 where
   event : Event → ℕ → Records → Records
   end : Records

@@ -3,7 +3,6 @@
 // error and stops.
 
 use libc::STDOUT_FILENO;
-ghost use mathlib.Core.Path.{_≡_};
 ghost use lib.ListN.{length};
 ghost use Rattle.transcript.specs.Claims.{Roomy};
 

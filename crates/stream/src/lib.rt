@@ -1,11 +1,10 @@
 // Standard input a piece at a time, by way of one lent buffer.
 
 use libc::STDIN_FILENO;
-ghost use mathlib.Core.Path.{_≡_};
-ghost use lib.ListN.{length};
-ghost use Rattle.stream.specs.Ready.{Ready};
+ghost use Rattle.stream.specs.Ready.{Ready, Stays};
 
-// The bytes of the buffer that lie ready, from a place up to an end; whether these are the last, and whether a read failed.
+// The bytes of the buffer that lie ready, from a place up to an end; whether no more come, and then there are none; and whether a
+// read failed.
 pub struct Input {
     pub from: usize,
     pub to: usize,
@@ -29,17 +28,18 @@ fn refill(buffer: &mut [u8]) -> Input
 
 // What lies ready: the bytes still there, or, where there are none, those of another read.
 pub fn more(buffer: &mut [u8], from: usize, to: usize) -> Input
-    ensures { λ r. ⌜ Ready r (now (buffer .exit)) ⌝ }
+    ensures { λ r. ⌜ Ready r (now (buffer .exit)) × Stays from to (now (buffer .entry)) r (now (buffer .exit)) ⌝ }
 {
-    if from < to {
-        if to <= buffer.len() {
-            return Input {
-                from,
-                to,
-                last: false,
-                failed: false,
-            };
-        }
+    if to <= from {
+        return refill(buffer);
     }
-    refill(buffer)
+    if buffer.len() < to {
+        return refill(buffer);
+    }
+    Input {
+        from,
+        to,
+        last: false,
+        failed: false,
+    }
 }

@@ -1,15 +1,15 @@
 -- Calls one after the other: by induction over them, what was written and what is left stay the uncut recording's; and enough
 -- calls end the run, since each uses bytes up.
 use mathlib.Core.Path.{_≡_, refl, sym, ap, _∙_}
-use mathlib.Core.Bool.{Bool, true, false, cond, _&&_, _||_}
+use mathlib.Core.Bool.{Bool, true, false, _&&_}
 use mathlib.Core.List.{List, [], _∷_, _++_, append-assoc, append-nil}
-use Prim.Native.Nat.{ℕ, _+_, _-_, _*_, _<_, _≤_, min}
+use Prim.Native.Nat.{ℕ, _+_, _-_, _*_, _<_, _≤_}
 use native.Mathlib.Omega.{arith}
-use lib.Dec.{leb, eqb, lit≤}
-use lib.ListN.{length, take, drop, length-append, length-drop, length-take, take-append-drop, drop-of-length-le}
+use lib.Dec.{leb, eqb}
+use lib.ListN.{length, take, drop, length-drop, length-take, take-append-drop, drop-of-length-le}
 use lib.Seq.{drop-append-le}
-use borrow.Author.Tests.{leb-true, leb-false, le-leb}
-use Rattle.lines.specs.Lines.{Text, lineOf}
+use borrow.Author.Tests.{leb-true, leb-false}
+use Rattle.lines.specs.Lines.{Text}
 use Rattle.pieces.specs.Limit.{recordsOf}
 use Rattle.pieces.specs.Held.{heldOf}
 use Rattle.pieces.specs.Begun.{fresh, toTell, Few, heldCount, Offers}
@@ -17,7 +17,7 @@ use Rattle.pieces.specs.declared.Begun.{Begun}
 use Rattle.pieces.specs.declared.Reached.{Reached}
 use Rattle.transcript.specs.Transcript.{told, transcript}
 use Rattle.transcript.specs.Feeding.{Stretch, feedOf, reachedBy, left}
-use Rattle.transcript.specs.Claims.{Call, lastOf, Calls, callsOf, AnyCut, Uncut, Able, AllAble, Enough}
+use Rattle.transcript.specs.Claims.{Call, lastOf, callsOf, AnyCut, Uncut, Able, AllAble, Enough}
 use Rattle.pieces.proofs.Landing.{few-fresh, none-held}
 use Rattle.transcript.proofs.Together.{together}
 use Rattle.transcript.proofs.Left.{left-over}

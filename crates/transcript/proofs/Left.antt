@@ -1,18 +1,14 @@
 -- What is left to tell from a later place: the bytes from there on are the same bytes, and what is told of them goes by the bytes alone.
 use mathlib.Core.Path.{_≡_, refl, sym, ap, _∙_}
-use mathlib.Core.Bool.{Bool, true, false, cond}
-use mathlib.Core.List.{List, [], _∷_, _++_, append-assoc, append-nil}
-use Prim.Native.Nat.{ℕ, zero, suc, _+_, _-_, _<_, _≤_, min}
+use mathlib.Core.Bool.{Bool, true, false}
+use mathlib.Core.List.{List, []}
+use Prim.Native.Nat.{ℕ, _+_, _-_, _≤_}
 use native.Mathlib.Omega.{arith}
-use lib.Dec.{ltb, leb, eqb}
-use lib.ListN.{length, take, drop, length-append, length-drop, length-take}
-use lib.Seq.{take-all, drop-append-le, drop-append-add}
-use borrow.Author.Tests.{lt-ltb, le-ltb, ltb-true, ltb-false, leb-true, leb-false, eq-eqb}
+use lib.ListN.{length, drop}
+use borrow.Author.Tests.{eq-eqb}
 use Rattle.rules.specs.Step.{step}
 use Rattle.records.specs.Recordings.{Records, event, end, refusal}
-use Rattle.lines.specs.Lines.{Text}
-use Rattle.pieces.specs.Limit.{limit, seenFrom}
-use Rattle.pieces.specs.Held.{longestRecord, bytesOf, heldOf}
+use Rattle.pieces.specs.Limit.{seenFrom}
 use Rattle.pieces.specs.Begun.{joined, allowed, inside, beyond, toTell}
 use Rattle.pieces.specs.declared.Begun.{Begun}
 use Rattle.pieces.proofs.Later.{same-beyond, same-inside}

@@ -8,7 +8,7 @@ use Rattle.transcript.specs.Feeding.{feedOf, reachedBy}
 use Rattle.transcript.specs.Claims.{Progress, Counted}
 use Rattle.pieces.proofs.Landing.{uses, counts}
 use Rattle.pieces.proofs.Tells.{or-going}
-use Rattle.transcript.proofs.Reaching.{Going, going, over-stays}
+use Rattle.transcript.proofs.Reaching.{going, over-stays}
 
 module _ (b : Begun) (piece : List ℕ) (last : Bool) (l : List ℕ) (room : ℕ) where
   -- the run was not over, or it would be so now

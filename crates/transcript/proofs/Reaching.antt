@@ -1,31 +1,27 @@
 -- How far a feed takes its piece, and what it leaves: by the tests before the records, and by how they were gone through.
-use mathlib.Core.Path.{_≡_, refl, sym, ap, _∙_}
-use mathlib.Core.Bool.{Bool, true, false, cond, _||_, false≢true}
+use mathlib.Core.Path.{_≡_, refl}
+use mathlib.Core.Bool.{Bool, true, false, cond, _||_}
 use mathlib.Core.List.{List, []}
-use Prim.Native.Nat.{ℕ, _+_, _-_, _*_, _<_, _≤_, min}
+use Prim.Native.Nat.{ℕ, _-_, _<_, _≤_}
 use native.Mathlib.Omega.{arith}
-use lib.Dec.{leb, eqb, lit≤}
-use lib.ListN.{length, take, drop, length-append, length-drop, length-take}
-use borrow.Author.Tests.{eqb-true, eqb-false, ltb-false, leb-false}
+use lib.Dec.{leb, eqb}
+use lib.ListN.{length, length-append, length-take}
+use borrow.Author.Tests.{eqb-true, eqb-false, leb-false}
 use Rattle.rules.specs.Paper.{X}
-use Rattle.rules.specs.declared.Refusal.the-variants.{Store}
-use Rattle.records.specs.Recordings.{Records, end, refusal}
 use Rattle.records.specs.declared.Found.the-variants.{End}
-use Rattle.records.proofs.Parts.{stands}
-use Rattle.lines.specs.Lines.{lineOf, longest}
+use Rattle.lines.specs.Lines.{lineOf}
 use Rattle.lines.proofs.Lengths.{most}
-use Rattle.pieces.specs.Limit.{limit, seenAt}
-use Rattle.pieces.specs.Held.{bytesOf, heldOf, longestRecord}
-use Rattle.pieces.specs.Begun.{joined, allowed, inside, beyond, Few, heldCount, landed}
+use Rattle.pieces.specs.Limit.{seenAt}
+use Rattle.pieces.specs.Held.{bytesOf}
+use Rattle.pieces.specs.Begun.{joined, allowed, inside, beyond, Few, landed}
 use Rattle.pieces.specs.declared.Begun.{Begun}
-use Rattle.pieces.specs.declared.Reached.{Reached}
 use Rattle.pieces.specs.declared.How.{How}
 use Rattle.pieces.specs.declared.How.the-variants.{Full, Spent, Stopped}
-use Rattle.transcript.specs.Feeding.{Stretch, stretch, after, fits, fitting, feedOf, reachedBy}
+use Rattle.transcript.specs.Feeding.{Stretch, stretch, after, fitting, feedOf, reachedBy}
 use Rattle.transcript.specs.Claims.{Roomy}
-use Rattle.transcript.proofs.Went.{Went, went}
+use Rattle.transcript.proofs.Went.{went}
 use Rattle.pieces.proofs.States.{few-landed}
-use Rattle.pieces.proofs.Tells.{tells-none, tells-store, tells-records, or-over, or-going, none-left}
+use Rattle.pieces.proofs.Tells.{tells-none, tells-store, tells-records, or-over}
 
 pub few-after : (b : Begun) (piece : List ℕ) (last : Bool) (q : Stretch) → Few (reachedBy b piece last q .begun)
 few-after b piece last q = few-landed b piece (last || b .over) (q .at) (q .how)

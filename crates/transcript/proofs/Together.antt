@@ -1,12 +1,11 @@
 -- What a feed writes and what is then left make what was left before: by the tests before the records, and by how they were gone through.
-use mathlib.Core.Path.{_≡_, refl, sym, ap, _∙_}
+use mathlib.Core.Path.{_≡_, refl, ap, _∙_}
 use mathlib.Core.Bool.{Bool, true, false, cond, _||_}
 use mathlib.Core.List.{List, [], _++_, append-nil}
-use Prim.Native.Nat.{ℕ, _+_, _-_, _≤_, min}
+use Prim.Native.Nat.{ℕ, _+_, _-_, _≤_}
 use native.Mathlib.Omega.{arith}
 use lib.Dec.{leb, eqb}
-use lib.ListN.{length, take, drop, length-append, length-take}
-use lib.Seq.{take-all}
+use lib.ListN.{length, drop, length-append, length-take}
 use borrow.Author.Tests.{eqb-true, eqb-false, ltb-false}
 use Rattle.rules.specs.Paper.{X}
 use Rattle.rules.specs.declared.Refusal.the-variants.{Store}
@@ -15,16 +14,15 @@ use Rattle.records.specs.declared.Found.the-variants.{End}
 use Rattle.records.proofs.Parts.{stands}
 use Rattle.lines.specs.Lines.{Text, lineOf}
 use Rattle.pieces.specs.Limit.{seenAt, seenFrom}
-use Rattle.pieces.specs.Held.{bytesOf, longestRecord}
 use Rattle.pieces.specs.Begun.{joined, allowed, inside, beyond, Few, landed, paused, holding}
 use Rattle.pieces.specs.declared.Begun.{Begun}
 use Rattle.pieces.specs.declared.How.{How}
 use Rattle.pieces.specs.declared.How.the-variants.{Full, Spent, Stopped}
 use Rattle.pieces.proofs.Seen.{everySeen}
 use Rattle.transcript.specs.Transcript.{told}
-use Rattle.transcript.specs.Feeding.{Stretch, stretch, after, fitting, feedOf, reachedBy, left}
+use Rattle.transcript.specs.Feeding.{Stretch, stretch, after, fitting, feedOf, left}
 use Rattle.transcript.specs.Claims.{Together}
-use Rattle.transcript.proofs.Went.{Went, onwards, went}
+use Rattle.transcript.proofs.Went.{onwards, went}
 use Rattle.transcript.proofs.Left.{left-later, left-over}
 use Rattle.pieces.proofs.Fronts.{front, one}
 use Rattle.pieces.proofs.States.{paused-bytes, holding-bytes}

@@ -1,5 +1,5 @@
 -- How the records are gone through while their lines fit: by induction over what is seen, one line at a time.
-use mathlib.Core.Path.{_≡_, refl, sym, ap, _∙_}
+use mathlib.Core.Path.{_≡_, refl, _∙_}
 use mathlib.Core.Bool.{Bool, true, false, cond}
 use mathlib.Core.List.{List, [], _++_, append-assoc, append-nil}
 use Prim.Native.Nat.{ℕ, _+_, _-_, _<_, _≤_}
@@ -12,7 +12,7 @@ use Rattle.rules.specs.Step.{step}
 use Rattle.rules.proofs.Length.{length-stays}
 use Rattle.rules.specs.declared.Event.{Event}
 use Rattle.rules.specs.declared.Refusal.{Refusal}
-use Rattle.records.specs.Recordings.{Records, event, end, refusal}
+use Rattle.records.specs.Recordings.{event, end, refusal}
 use Rattle.records.specs.declared.Cursor.{Cursor}
 use Rattle.records.specs.declared.Found.the-variants.{Whole, Refused, End}
 use Rattle.lines.specs.Lines.{Text, lineOf, longest}
@@ -23,7 +23,7 @@ use Rattle.pieces.specs.declared.How.the-variants.{Full, Spent, Stopped}
 use Rattle.pieces.proofs.Fronts.{Front}
 use Rattle.pieces.proofs.Seen.{everySeen, seen-advances, by-seen}
 use Rattle.transcript.specs.Transcript.{told}
-use Rattle.transcript.specs.Feeding.{Stretch, stretch, after, fits, fitting}
+use Rattle.transcript.specs.Feeding.{Stretch, stretch, after, fitting}
 use Rattle.transcript.specs.Claims.{Roomy}
 
 -- what is told of more bytes from where a stretch ended: nothing after a stop

@@ -1,7 +1,7 @@
 -- What feeds make together, however the recording is cut. The proofs are in proofs/.
 use Prim.Native.Nat.{ℕ, _+_, _*_, _<_, _≤_}
 use mathlib.Core.Path.{_≡_}
-use mathlib.Core.Bool.{Bool, true, false, _&&_, _||_}
+use mathlib.Core.Bool.{Bool, true, false, _&&_}
 use mathlib.Core.List.{List, [], _∷_, _++_}
 use lib.ListN.{length, take, drop, replicate}
 use lib.Dec.{leb}
@@ -12,7 +12,7 @@ use Rattle.pieces.specs.Limit.{limit}
 use Rattle.pieces.specs.Begun.{fresh, Few, heldCount, Offers}
 use Rattle.pieces.specs.declared.Begun.{Begun}
 use Rattle.transcript.specs.Transcript.{transcript}
-use Rattle.transcript.specs.Feeding.{Stretch, feedOf, reachedBy, left}
+use Rattle.transcript.specs.Feeding.{feedOf, reachedBy, left}
 
 -- whatever the room, what a feed writes and what is then left make what was left before. Only the last bytes are said to be the last
 abbrev pub Together : Type 0
@@ -30,7 +30,7 @@ pub record Call : Type 0 where
   pub last : Bool
   pub room : ℕ
 
--- only the last bytes are said to be the last
+-- whether a call says its bytes are the last; said too early it does not count
 abbrev pub lastOf : Call → List ℕ → Bool
 lastOf k r = k .last && leb (length r) (k .offer)
 
@@ -83,12 +83,12 @@ AllAble (k ∷ ks) = Able k × AllAble ks
 abbrev pub Enough : Type 0
 Enough = (ks : List Call) (r l : List ℕ) → AllAble ks → 2 * length r < length ks → callsOf ks fresh r l .begun .over ≡ true
 
--- where the whole text fits, one call does
+-- where all that is still to be told fits, one call with the bytes still to come tells it and ends the run
 abbrev pub AtOnce : Type 0
 AtOnce =
-    (r l : List ℕ) (room : ℕ) → length (transcript r l .0) ≤ room
-    → let q = feedOf fresh r true l room in
-    ((q .text, q .store) ≡ transcript r l) × (reachedBy fresh r true q .begun .over ≡ true)
+    (b : Begun) (r l : List ℕ) (room : ℕ) → length (left b r l .0) ≤ room
+    → let q = feedOf b r true l room in
+    ((q .text, q .store) ≡ left b r l) × (reachedBy b r true q .begun .over ≡ true)
 
 -- what a caller's loop goes by: a feed that offers a byte or says that no more will come, has room for any line and does not end
 -- the run, uses bytes up, of the piece or of those held

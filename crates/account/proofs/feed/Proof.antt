@@ -1,5 +1,4 @@
 -- Over, or what the records of the piece tell and where they leave it.
-use mathlib.Core.Path.{_≡_, _∙_}
 use borrow.Author.Needs.{needs}
 use Rattle.account.proofs.Pieces.{when-over, when-going}
 use Rattle.account.proofs.feed.Statement.{statement}

@@ -1,5 +1,5 @@
 -- The loop reads on to the end of the run: each piece brings it nearer, and what lies ready stays within its buffer.
-use mathlib.Core.Path.{_≡_, refl, sym, _∙_}
+use mathlib.Core.Path.{_≡_, refl, _∙_}
 use mathlib.Core.Bool.{false}
 use lib.ListN.{length}
 use borrow.Author.Needs.{needs}
@@ -30,13 +30,13 @@ piece-1 c =
 
 -- the part that lies ready
 order : tie.Need-sub-feed Inv-loop μ-loop
-order c = c .before .before .before .before .more .ensures .order
+order c = c .before .before .before .before .more .ensures .0 .order
 
 starts : tie.Need-part-feed-start Inv-loop μ-loop
-starts c = c .before .before .before .before .before .more .ensures .order
+starts c = c .before .before .before .before .before .more .ensures .0 .order
 
 ends : tie.Need-part-feed-end Inv-loop μ-loop
-ends c = c .before .before .before .before .before .more .ensures .within
+ends c = c .before .before .before .before .before .more .ensures .0 .within
 
 -- the end
 registers-2 : tie.Need-same-length-3 Inv-loop μ-loop
@@ -54,7 +54,7 @@ loop-less c =
     let feed = c .before .before .before .before in
     let more = feed .before .before .before .before .before .before .before in
     let inv = more .before .before .loop .inv .1 .1 in
-    nearer _ _ _ _ _ (feed .feed .ensures) (inv .0) (inv .1) (offered (more .more .result) _ (more .more .ensures))
+    nearer _ _ _ _ _ (feed .feed .ensures) (inv .0) (inv .1) (offered (more .more .result) _ (more .more .ensures .0))
 
 loop-again : tie.Need-loop-again Inv-loop μ-loop
 loop-again c =

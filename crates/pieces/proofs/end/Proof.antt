@@ -1,6 +1,5 @@
 -- By what was found: a whole record stays, a refusal is ended by `end_refused`, and the end gives 13 where bytes lie beyond.
 use borrow.Author.Needs.{needs}
-use mathlib.Core.Path.{_≡_, _∙_}
 use Rattle.pieces.proofs.end.Statement.{statement}
 use Rattle.pieces.proofs.end.Tie as tie
 

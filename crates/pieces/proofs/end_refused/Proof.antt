@@ -1,7 +1,5 @@
 -- By the tests in their order: another number than 12, bytes beyond the limit, the last bytes.
 use mathlib.Core.Path.{_∙_}
-use mathlib.Core.Bool.{true, false}
-use Prim.Native.Nat.{ℕ}
 use native.Mathlib.Omega.{arith}
 use borrow.Author.Needs.{needs}
 use borrow.Author.Tests.{eq-eqb, ne-eqb}

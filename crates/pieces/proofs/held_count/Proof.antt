@@ -1,5 +1,4 @@
 -- The lesser of the count and the array's length is how many bytes are held.
-use mathlib.Core.Path.{_≡_, sym, _∙_}
 use native.Mathlib.Omega.{arith}
 use lib.ListN.{length-take}
 use borrow.Author.Needs.{needs}

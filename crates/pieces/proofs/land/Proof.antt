@@ -1,5 +1,4 @@
 -- By how the records were gone through, as each way's own promise says.
-use mathlib.Core.Bool.{true, false}
 use borrow.Author.Needs.{needs}
 use Rattle.pieces.specs.Begun.{landed}
 use Rattle.pieces.proofs.land.Statement.{statement}

@@ -1,9 +1,7 @@
 -- Only a whole record has a place, and it is moved on.
 use native.Mathlib.Omega.{arith}
-use mathlib.Core.Path.{sym, ap}
-use Prim.Native.Nat.{ℕ}
+use mathlib.Core.Path.{ap}
 use borrow.Author.Needs.{needs}
-use Rattle.records.specs.declared.Found.{Found}
 use Rattle.pieces.specs.Moved.{endOf}
 use Rattle.pieces.proofs.moved.Statement.{statement}
 use Rattle.pieces.proofs.moved.Tie as tie

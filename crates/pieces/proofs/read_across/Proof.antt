@@ -1,14 +1,14 @@
 -- The record's bytes are among the seven gathered, and it is read from those.
 use mathlib.Core.Path.{_≡_, sym, ap, _∙_}
 use mathlib.Core.List.{List, _++_}
-use Prim.Native.Nat.{ℕ, _+_, _<_, _≤_}
+use Prim.Native.Nat.{ℕ, _+_}
 use native.Mathlib.Omega.{arith}
-use lib.ListN.{length, take, drop, length-take}
+use lib.ListN.{take, drop, length-take}
 use lib.Seq.{length-take-le}
 use borrow.Author.Needs.{needs}
 use Rattle.records.specs.Records.{recordAt}
 use Rattle.pieces.specs.Moved.{moved}
-use Rattle.pieces.specs.Held.{longestRecord, bytesOf, heldOf}
+use Rattle.pieces.specs.Held.{longestRecord, bytesOf}
 use Rattle.pieces.proofs.Across.{across, end-within}
 use Rattle.pieces.proofs.Gathered.{held-bytes, held-within, held-most}
 use Rattle.pieces.proofs.read_across.Statement.{statement}

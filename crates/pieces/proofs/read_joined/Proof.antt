@@ -1,9 +1,7 @@
 -- A record in the back stands past the front.
-use mathlib.Core.Path.{_≡_, sym, ap, _∙_}
-use Prim.Native.Nat.{ℕ, _+_, _<_, _≤_}
+use mathlib.Core.Path.{sym, ap, _∙_}
 use native.Mathlib.Omega.{arith}
 use borrow.Author.Needs.{needs}
-use Rattle.records.specs.declared.Found.{Found}
 use Rattle.pieces.specs.Moved.{moved}
 use Rattle.pieces.proofs.Across.{behind, end-within}
 use Rattle.pieces.proofs.read_joined.Statement.{statement}

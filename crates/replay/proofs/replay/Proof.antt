@@ -35,13 +35,13 @@ text-1 c = c .before .before .before .before .before .before .before .before .be
 
 -- the part that lies ready
 order : tie.Need-sub-feed Inv-loop μ-loop
-order c = c .before .before .before .before .more .ensures .order
+order c = c .before .before .before .before .more .ensures .0 .order
 
 starts : tie.Need-part-feed-start Inv-loop μ-loop
-starts c = c .before .before .before .before .before .more .ensures .order
+starts c = c .before .before .before .before .before .more .ensures .0 .order
 
 ends : tie.Need-part-feed-end Inv-loop μ-loop
-ends c = c .before .before .before .before .before .more .ensures .within
+ends c = c .before .before .before .before .before .more .ensures .0 .within
 
 -- the text written
 written : tie.Need-slice-reshare-prefix-write-all Inv-loop μ-loop
@@ -78,7 +78,7 @@ add-from : tie.Need-add-from Inv-loop μ-loop
 add-from c =
     let feed = c .before .before .before .before .before .before .before .before .before in
     let more = feed .before .before .before .before .before .before .before .before .more in
-    let ready = more .ensures in
+    let ready = more .ensures .0 in
     omega (arith, taken _ _ _ _ _ _ (feed .feed .ensures), ready-length (more .result) _ ready, ready .order, ready .within)
 
 loop-less : tie.Need-loop-less Inv-loop μ-loop
@@ -88,7 +88,7 @@ loop-less c =
     let test = more .before .before in
     let loop = test .before .before .loop in
     let start = test .before .before .before .before .before .before .before in
-    nearer _ _ _ _ _ _ (feed .feed .ensures) (loop .inv .1 .1 .1) (not-true _ (test .if1 .taken)) (offered (more .more .result) _ (more .more .ensures))
+    nearer _ _ _ _ _ _ (feed .feed .ensures) (loop .inv .1 .1 .1) (not-true _ (test .if1 .taken)) (offered (more .more .result) _ (more .more .ensures .0))
     (omega (arith, start .pre, loop .inv .1 .1 .0))
 
 loop-again : tie.Need-loop-again Inv-loop μ-loop

@@ -1,6 +1,5 @@
 -- The place lies within the recording.
 use mathlib.Core.Path.{sym}
-use native.Mathlib.Omega.{arith}
 use lib.Seq.{length-take-le}
 use borrow.Author.Needs.{needs}
 use Rattle.replays.proofs.show_cut.Statement.{statement}

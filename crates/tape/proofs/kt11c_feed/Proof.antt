@@ -1,12 +1,10 @@
 -- The state is taken from the words, the piece is fed, and where it led is put back as words.
-use mathlib.Core.Path.{_≡_, ap, _∙_}
+use mathlib.Core.Path.{_≡_}
 use mathlib.Core.List.{List}
 use Prim.Native.Nat.{ℕ}
 use borrow.Author.Needs.{needs}
-use Rattle.pieces.specs.declared.Begun.{Begun}
-use Rattle.transcript.specs.Feeding.{fed}
 use Rattle.transcript.specs.declared.Fed.{Fed}
-use Rattle.tape.specs.Tapes.{begunBy, wordsOf, counted}
+use Rattle.tape.specs.Tapes.{wordsOf, counted}
 use Rattle.tape.proofs.kt11c_feed.Statement.{statement}
 use Rattle.tape.proofs.kt11c_feed.Tie as tie
 
