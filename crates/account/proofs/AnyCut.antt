@@ -10,7 +10,7 @@ use borrow.Author.Tests.{eq-eqb, ne-eqb, eqb-true, eqb-false}
 use Rattle.rules.specs.declared.Refusal.the-variants.{Store}
 use Rattle.pieces.specs.Limit.{recordsOf}
 use Rattle.pieces.specs.Held.{heldOf}
-use Rattle.pieces.specs.Begun.{fresh, joined, allowed, inside, beyond, recordsIn, Few, onward}
+use Rattle.pieces.specs.Begun.{allOf, fresh, joined, allowed, inside, beyond, recordsIn, Few, onward}
 use Rattle.pieces.proofs.States.{few-landed}
 use Rattle.pieces.proofs.Tells.{tells-none, tells-store, tells-records}
 use Rattle.account.specs.declared.Survey.{Survey}
@@ -18,7 +18,7 @@ use Rattle.account.specs.declared.Audited.{Audited}
 use Rattle.account.specs.declared.Audited.the-variants.{Refused}
 use Rattle.account.specs.Runs.{run}
 use Rattle.account.specs.Reports.{courseOf, reported, auditOf}
-use Rattle.account.specs.Surveys.{course, trail, begins, surveyed, courseBy, reportOf, surveysOf, allOf}
+use Rattle.account.specs.Surveys.{course, trail, begins, surveyed, courseBy, reportOf, surveysOf}
 use Rattle.account.specs.Claims.{AnyCut}
 use Rattle.account.proofs.Carried.{whole-trail}
 use Rattle.account.proofs.Cuts.{trailed}

@@ -3,8 +3,9 @@ use Prim.Native.Nat.{ℕ}
 use mathlib.Core.Path.{_≡_}
 use mathlib.Core.Bool.{true}
 use mathlib.Core.List.{List, _++_}
+use Rattle.pieces.specs.Begun.{allOf}
 use Rattle.account.specs.Reports.{auditOf}
-use Rattle.account.specs.Surveys.{begins, surveyed, reportOf, surveysOf, allOf}
+use Rattle.account.specs.Surveys.{begins, surveyed, reportOf, surveysOf}
 
 abbrev pub AnyCut : Type 0
 AnyCut =

@@ -1,7 +1,7 @@
 -- The audit of a recording that comes in pieces (request E4): what the records so far tell, and what a piece adds to it.
 use Prim.Native.Nat.{ℕ, _+_}
 use mathlib.Core.Bool.{Bool, false, cond, _||_}
-use mathlib.Core.List.{List, [], _∷_, _++_}
+use mathlib.Core.List.{List, [], _∷_}
 use lib.ListN.{length}
 use lib.Dec.{eqb}
 use Rattle.rules.specs.Words.{word, SR0, relocates}
@@ -70,7 +70,3 @@ reportOf l v = cond (eqb (length l) 100) (Done (record { course = courseBy v; ma
 unfoldable pub surveysOf : List (List ℕ) → Survey → List ℕ → Survey × List ℕ
 surveysOf [] v l = (v, l)
 surveysOf (piece ∷ pieces) v l = let q = surveyed l v piece false in surveysOf pieces (q .0) (q .1)
-
-abbrev pub allOf : List (List ℕ) → List ℕ
-allOf [] = []
-allOf (piece ∷ pieces) = piece ++ allOf pieces

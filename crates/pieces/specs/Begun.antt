@@ -1,7 +1,7 @@
 -- The state between pieces, and how far a piece was taken (request E4).
 use Prim.Native.Nat.{ℕ, _+_, _-_, _<_, _≤_, min}
 use mathlib.Core.Bool.{Bool, true, false, cond}
-use mathlib.Core.List.{List, [], _++_}
+use mathlib.Core.List.{List, [], _∷_, _++_}
 use lib.ListN.{length, take, drop}
 use lib.Dec.{ltb, eqb}
 use Rattle.rules.specs.declared.Refusal.the-variants.{Store}
@@ -20,6 +20,11 @@ begun held at over = record { held = held; at = at; over = over }
 -- before the first byte
 abbrev pub fresh : Begun
 fresh = begun (heldOf []) 0 false
+
+-- pieces one after the other
+abbrev pub allOf : List (List ℕ) → List ℕ
+allOf [] = []
+allOf (piece ∷ pieces) = piece ++ allOf pieces
 
 -- the bytes of the begun record, and a piece after them
 abbrev pub joined : Begun → List ℕ → List ℕ

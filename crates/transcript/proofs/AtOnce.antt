@@ -18,12 +18,12 @@ use Rattle.transcript.specs.Transcript.{told}
 use Rattle.transcript.specs.Feeding.{Stretch, fitting, feedOf}
 use Rattle.transcript.specs.Claims.{AtOnce}
 
-record Whole (rs : Records) (l : List ℕ) (q : Stretch) : Type 0 where
-  text : q .text ≡ told rs l .0
-  store : q .store ≡ told rs l .1
-  room-left : q .how ≡ Full → ⊥
+pub record Whole (rs : Records) (l : List ℕ) (q : Stretch) : Type 0 where
+  pub text : q .text ≡ told rs l .0
+  pub store : q .store ≡ told rs l .1
+  pub room-left : q .how ≡ Full → ⊥
 
-all-fit : (rs : Records) (room at : ℕ) (l : List ℕ) → length (told rs l .0) ≤ room → Whole rs l (fitting room rs at l)
+pub all-fit : (rs : Records) (room at : ℕ) (l : List ℕ) → length (told rs l .0) ≤ room → Whole rs l (fitting room rs at l)
 unfolding fitting told
 all-fit end room at l h =
     record { text = refl; store = refl; room-left = λ e. let z : _≡_ {A = ℕ} 0 1 = cc in omega arith }

@@ -46,6 +46,10 @@ no-more k r e = by (k .last) (leb (length r) (k .offer)) refl e
 not-taken : (n m : ℕ) (r : List ℕ) → n ≤ length (take m r) → drop n (take m r) ++ drop m r ≡ drop n r
 not-taken n m r h = sym (drop-append-le n (take m r) (drop m r) h) ∙ ap (drop n) (take-append-drop m r)
 
+-- a text, and then what the rest comes to
+pub joining : (a c : Text) (d e : Text × List ℕ) → (c ++ d .0, d .1) ≡ e → _≡_ {A = Text × List ℕ} (a ++ c ++ d .0, d .1) (a ++ e .0, e .1)
+joining a c d e h = rw (append-assoc a c (d .0)) (ap (λ (y : Text × List ℕ). (a ++ y .0, y .1)) h)
+
 pub any-cut : (ks : List Call) (b : Begun) (r l : List ℕ) → Few b
     → let q = callsOf ks b r l in
     let rest = left (q .begun) (q .rest) (q .store) in
@@ -66,9 +70,6 @@ any-cut (k ∷ ks) b r l few =
     rw (← n) (t ∙ ap (λ (s : List ℕ). left b s l) (take-append-drop (k .offer) r)) in
     let end = callsOf ks (to .begun) (drop (to .taken) r) (q .store) in
     joining (q .text) (end .text) (left (end .begun) (end .rest) (end .store)) rest next ∙ whole
-  where
-    joining : (a c : Text) (d e : Text × List ℕ) → (c ++ d .0, d .1) ≡ e → _≡_ {A = Text × List ℕ} (a ++ c ++ d .0, d .1) (a ++ e .0, e .1)
-    joining a c d e h = rw (append-assoc a c (d .0)) (ap (λ (y : Text × List ℕ). (a ++ y .0, y .1)) h)
 
 pub anyCut : AnyCut
 anyCut ks r l = any-cut ks fresh r l few-fresh ∙ at-first r l

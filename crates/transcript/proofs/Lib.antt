@@ -5,5 +5,6 @@ pub mod Reaching
 pub mod Progress
 pub mod Calls
 pub mod AtOnce
+pub mod InPieces
 pub mod Promise
 pub mod WholeCase

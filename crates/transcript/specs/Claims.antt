@@ -9,7 +9,7 @@ use Rattle.rules.specs.Paper.{G, R, D}
 use Rattle.rules.specs.declared.Served.the-variants.{Page}
 use Rattle.lines.specs.Lines.{Text, lineOf, longest}
 use Rattle.pieces.specs.Limit.{limit}
-use Rattle.pieces.specs.Begun.{fresh, Few, heldCount, Offers}
+use Rattle.pieces.specs.Begun.{fresh, allOf, Few, heldCount, Offers}
 use Rattle.pieces.specs.declared.Begun.{Begun}
 use Rattle.transcript.specs.Transcript.{transcript}
 use Rattle.transcript.specs.Feeding.{feedOf, reachedBy, left}
@@ -64,6 +64,24 @@ AnyCut =
 -- so, once the run is over, the lines and the registers are those of the uncut recording
 abbrev pub Uncut : Type 0
 Uncut = (ks : List Call) (r l : List ℕ) → let q = callsOf ks fresh r l in q .begun .over ≡ true → (q .text, q .store) ≡ transcript r l
+
+-- pieces one after the other, none of them the last: the text, the state and the store after them
+unfoldable pub piecesOf : List (List ℕ) → Begun → List ℕ → ℕ → Calls
+piecesOf [] b l room = record { text = []; begun = b; rest = []; store = l }
+piecesOf (piece ∷ pieces) b l room =
+    let q = feedOf b piece false l room in
+    let to = reachedBy b piece false q in
+    before (q .text) (piecesOf pieces (to .begun) (q .store) room)
+
+-- with room for the whole text, any pieces, empty ones too, and a last one make exactly the transcript, and the run is over
+abbrev pub InPieces : Type 0
+InPieces =
+    (pieces : List (List ℕ)) (piece l : List ℕ) (room : ℕ)
+    → let r = allOf pieces ++ piece in
+    length (transcript r l .0) ≤ room
+    → let q = piecesOf pieces fresh l room in
+    let z = feedOf (q .begun) piece true (q .store) room in
+    ((q .text ++ z .text, z .store) ≡ transcript r l) × (reachedBy (q .begun) piece true z .begun .over ≡ true)
 
 -- room for any line
 abbrev pub Roomy : ℕ → Type 0
