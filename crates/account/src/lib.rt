@@ -1,6 +1,8 @@
 // The audit of a recording for demand 3, a piece at a time: from where on it kept the premises, which record broke them
 // last, how it ended, and whether the last map keeps the modes apart.
 
+#![tactic(auto)]
+
 ghost use Rattle.std.specs.Prelude.{◌≡◌, ◌++◌, ◌+◌, ◌<◌, length};
 ghost use Rattle.rules.specs.Words.{word, SR0, relocates};
 ghost use Rattle.pieces.specs.Limit.{seen_from};
@@ -15,28 +17,28 @@ use records::Found;
 use rules::Refusal;
 
 // From which byte on a run kept the premises to its end.
-#[derive(Drop)]
+#[derive(Clone, Copy)]
 pub enum Kept {
     From(usize),
     Never,
 }
 
 // Which record broke a premise last, by its first byte, and why.
-#[derive(Drop)]
+#[derive(Clone, Copy)]
 pub enum Broken {
     At(usize, Reason),
     Nowhere,
 }
 
 // How a run ended, or stands so far: no record stopped it, or it was stopped by 1, 11, 12 or 13.
-#[derive(Drop)]
+#[derive(Clone, Copy)]
 pub enum Ending {
     All,
     Stopped(Refusal),
 }
 
 // What the records of a run tell; `at` is the byte where it ended.
-#[derive(Drop)]
+#[derive(Clone, Copy)]
 pub struct Course {
     pub kept: Kept,
     pub broken: Broken,
@@ -44,14 +46,14 @@ pub struct Course {
     pub ending: Ending,
 }
 
-#[derive(Drop)]
+#[derive(Clone, Copy)]
 pub struct Report {
     pub course: Course,
     pub map: Parting,
 }
 
 // What the records so far tell, with the state between two pieces.
-#[derive(Drop)]
+#[derive(Clone, Copy)]
 pub struct Survey {
     pub begun: Begun,
     pub kept: Kept,
@@ -60,7 +62,7 @@ pub struct Survey {
 }
 
 // A report, or refused by 1.
-#[derive(Drop)]
+#[derive(Clone, Copy)]
 pub enum Audited {
     Done(Report),
     Refused(Refusal),

@@ -1,6 +1,8 @@
 // Reads a recording from standard input, audits it for demand 3 with all registers 0 at first, a piece at a time (request
 // E4), and writes the report to standard output. If it can't read or write, it says so on standard error and stops.
 
+#![tactic(auto)]
+
 use account::Survey;
 use libc::STDOUT_FILENO;
 

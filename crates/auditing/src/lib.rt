@@ -1,5 +1,7 @@
 // Demand 3's premises on one step, so that a bench can check them while it records.
 
+#![tactic(auto)]
+
 ghost use Rattle.std.specs.Prelude.{◌≡◌, ◌<◌, length};
 ghost use Rattle.rules.specs.Keys.{key_of, non_resident};
 ghost use Rattle.widening.specs.Widens.{keeps_blocks, keeps_rights};
@@ -9,7 +11,7 @@ ghost use Rattle.auditing.specs.Places.{left_on, par_verdict, pdr_verdict, place
 use rules::{Event, Refusal};
 
 // The premises of demand 3 on a step, in their order.
-#[derive(Drop)]
+#[derive(Clone, Copy)]
 pub enum Reason {
     // INIT
     Init,
@@ -25,7 +27,7 @@ pub enum Reason {
     LosesRights,
 }
 
-#[derive(Drop)]
+#[derive(Clone, Copy)]
 pub enum Verdict {
     Permitted,
     Breaks(Reason),

@@ -1,6 +1,8 @@
 // What a bench links to write recordings and read them back: numbers in, one number out (request E2).
 // The codes are in specs/Codes.antt; include/kt11c.h says them for C.
 
+#![tactic(auto)]
+
 mod codes;
 
 ghost use Rattle.std.specs.Prelude.{◌≡◌};

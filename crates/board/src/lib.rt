@@ -1,6 +1,8 @@
 // What a board links: each operation over a store lent as a pointer and a count of words, answering one number.
 // The codes are in specs/Codes.antt; include/kt11c.h says them for C.
 
+#![tactic(auto)]
+
 ghost use Rattle.std.specs.Prelude.{◌≡◌, ◌≤◌};
 ghost use Rattle.rules.specs.Paper.{paper};
 ghost use Rattle.rules.specs.Step.{step};

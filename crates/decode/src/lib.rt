@@ -1,5 +1,7 @@
 // The register at an address (01, "Register addresses"), found by the part of the I/O page it lies in.
 
+#![tactic(auto)]
+
 ghost use Rattle.std.specs.Prelude.{◌≡◌, ◌≤◌};
 ghost use Rattle.rules.specs.Addresses.{register_at, in_registers};
 ghost use Rattle.decode.specs.Parts.{first_of, status_at};

@@ -1,5 +1,7 @@
 // The events that touch only the status words: the two starts, a change noted, and INIT.
 
+#![tactic(auto)]
+
 mod changes;
 mod starts;
 

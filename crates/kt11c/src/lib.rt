@@ -1,6 +1,8 @@
 // The unit over a lent store: an operation for each event of document 01, and `apply` for any of them.
 // Every operation takes every input: a store of any length, and any numbers.
 
+#![tactic(auto)]
+
 ghost use Rattle.std.specs.Prelude.{◌≡◌};
 ghost use Rattle.rules.specs.Paper.{paper};
 ghost use Rattle.rules.specs.Step.{step};

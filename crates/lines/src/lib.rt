@@ -1,5 +1,7 @@
 // An answer's line (01, "Recordings"), written straight into the lent output.
 
+#![tactic(auto)]
+
 ghost use Rattle.std.specs.Prelude.{◌≡◌, cond, ◌+◌, ◌%◌, ◌≤◌, ◌<◌, length};
 ghost use Rattle.std.proofs.lemmas.List.Edits.{sets};
 ghost use Rattle.rules.specs.Paper.{paper, G, A as Abort, R, D, X};

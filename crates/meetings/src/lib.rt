@@ -1,6 +1,8 @@
 // Whether the modes are apart in a lent store's map: one pass over the pages they may use, in store order. It keeps for each
 // block its owner, the lowest page that reaches it, and the lowest block so far where a page of another mode met an owner.
 
+#![tactic(auto)]
+
 ghost use Rattle.std.specs.Prelude.{◌≡◌, ◌-◌, ◌<◌, ◌≤◌, length};
 ghost use Rattle.meetings.specs.Parting.{parting_of, answer};
 ghost use Rattle.meetings.specs.Pass.{first_block, end_block, sighted, blocks_pass, page_pass, pages_pass};
@@ -8,7 +10,7 @@ ghost use Rattle.meetings.specs.Pass.{first_block, end_block, sighted, blocks_pa
 use rules::Refusal;
 
 // A block that two modes reach, and a page of each, by its place among the 48.
-#[derive(Drop)]
+#[derive(Clone, Copy)]
 pub struct Meeting {
     pub block: u16,
     pub first: u8,
@@ -16,7 +18,7 @@ pub struct Meeting {
 }
 
 // Whether the modes are apart, or the lowest block that two of them share.
-#[derive(Drop)]
+#[derive(Clone, Copy)]
 pub enum Parting {
     Apart,
     Shared(Meeting),

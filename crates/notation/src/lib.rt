@@ -1,5 +1,7 @@
 // Events as text, one a line (docs/NOTATION.md).
 
+#![tactic(auto)]
+
 ghost use Rattle.std.specs.Prelude.{◌≡◌, ◌+◌, length, drop};
 ghost use Rattle.notation.specs.Words.{before, not_feed};
 ghost use Rattle.notation.specs.Lines.{line_of};
@@ -11,7 +13,7 @@ mod named;
 mod words;
 
 // A field with a number.
-#[derive(Drop)]
+#[derive(Clone, Copy)]
 pub enum Field {
     Mode,
     Space,
@@ -26,7 +28,7 @@ pub enum Field {
 }
 
 // What a line lacks at the first word that does not fit.
-#[derive(Drop)]
+#[derive(Clone, Copy)]
 pub enum Expected {
     // An event's name.
     Name,
@@ -37,7 +39,7 @@ pub enum Expected {
 }
 
 // What a line says.
-#[derive(Drop)]
+#[derive(Clone, Copy)]
 pub enum Line {
     // Nothing: it has no word.
     Blank,
@@ -48,14 +50,14 @@ pub enum Line {
 }
 
 // The number that a word stands for; none where it does not fit its field.
-#[derive(Drop)]
+#[derive(Clone, Copy)]
 pub enum Number {
     Is(u32),
     None,
 }
 
 // The same for an amount.
-#[derive(Drop)]
+#[derive(Clone, Copy)]
 pub enum Amount {
     By(i32),
     None,

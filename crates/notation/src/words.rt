@@ -5,7 +5,7 @@ ghost use Rattle.notation.specs.Words.{blank, before, after, first_word, after_w
 ghost use Rattle.notation.specs.Classes.{test_of};
 
 // What a run of characters is made of.
-#[derive(Drop)]
+#[derive(Clone, Copy)]
 pub(crate) enum Class {
     Blanks,
     Word,

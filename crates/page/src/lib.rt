@@ -1,6 +1,8 @@
 // What every edition of the unit does with one page: the fields of an address and of the page's two words,
 // the length test and the sum.
 
+#![tactic(auto)]
+
 ghost use Rattle.std.specs.Prelude.{◌≡◌, ◌<◌};
 ghost use Rattle.page.specs.Fields.{block_of, page_of};
 ghost use Rattle.page.specs.Length.{length_error};

@@ -1,5 +1,7 @@
 // A recording that comes in pieces (request E4): the state between two pieces, and the records of the bytes so far.
 
+#![tactic(auto)]
+
 ghost use Rattle.std.specs.Prelude.{◌≡◌, [], ◌++◌, ◌+◌, ◌-◌, ◌<◌, min, length, drop};
 ghost use Rattle.records.specs.Bytes.{byte_at};
 ghost use Rattle.records.specs.Records.{record_at};
@@ -14,14 +16,14 @@ use records::{Cursor, Found};
 use rules::Refusal;
 
 // A few bytes by value: the first `count` of them.
-#[derive(Drop)]
+#[derive(Clone, Copy)]
 pub struct Held {
     pub bytes: [u8; 7],
     pub count: usize,
 }
 
 // The state between pieces: the bytes of a begun record, how many bytes came before them, and whether the run is over.
-#[derive(Drop)]
+#[derive(Clone, Copy)]
 pub struct Begun {
     pub held: Held,
     pub at: usize,
@@ -29,14 +31,14 @@ pub struct Begun {
 }
 
 // How far a piece was taken: the state then, and how many of its bytes are taken.
-#[derive(Drop)]
+#[derive(Clone, Copy)]
 pub struct Reached {
     pub begun: Begun,
     pub taken: usize,
 }
 
 // How the records of a piece were gone through, up to a place.
-#[derive(Drop)]
+#[derive(Clone, Copy)]
 pub enum How {
     // The line of the record there does not fit.
     Full,
@@ -47,7 +49,7 @@ pub enum How {
 }
 
 // The bytes inside the limit: so many of those held, and so many of the piece; and whether there are others.
-#[derive(Drop)]
+#[derive(Clone, Copy)]
 pub struct Window {
     pub front: usize,
     pub back: usize,

@@ -1,5 +1,7 @@
 // Whether a mode reaches a block in a lent store's map: a page reaches it by one of its blocks at most, so each page is asked once.
 
+#![tactic(auto)]
+
 ghost use Rattle.std.specs.Prelude.{◌≡◌, ◌-◌, ◌<◌, ◌≤◌, length};
 ghost use Rattle.rules.specs.Words.{enables_d};
 ghost use Rattle.rules.specs.References.{first_page};
@@ -10,7 +12,7 @@ ghost use Rattle.reach.specs.Reaching.{reaching_of, holds};
 use rules::Refusal;
 
 // Whether a mode reaches a block.
-#[derive(Drop)]
+#[derive(Clone, Copy)]
 pub enum Reaching {
     Yes,
     No,

@@ -1,6 +1,8 @@
 // A reader that holds the lent recording and its place in it (request E2; 01, "Which places take which form"): thin functions
 // over the cursor form, and two plain ones above them for callers.
 
+#![tactic(auto)]
+
 ghost use Rattle.std.specs.Prelude.{◌≡◌};
 ghost use Rattle.records.specs.Records.{record_at};
 ghost use Rattle.reader.specs.Reading.{place_after as place_after_of};

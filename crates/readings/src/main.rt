@@ -1,6 +1,8 @@
 // The readings of document 01 that are not starred, and the slips that it lists: each is run, and its answers and
 // registers are written as lines. Beside each event stands its line, worked out by hand; the file `stdout` has them all.
 
+#![tactic(auto)]
+
 use libc::STDOUT_FILENO;
 use rules::{Answer, Event, Reference};
 

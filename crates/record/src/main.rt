@@ -2,6 +2,8 @@
 // bad line it says on standard error which it is and what was expected, and records nothing more; if it can't read or write,
 // it says that.
 
+#![tactic(auto)]
+
 mod complaint;
 
 ghost use Rattle.std.specs.Prelude.{◌≡◌, ◌+◌, ◌<◌, ◌≤◌, length};
@@ -10,7 +12,7 @@ use libc::{STDIN_FILENO, STDOUT_FILENO};
 use script::Recorded;
 
 // Where a run stands.
-#[derive(Drop)]
+#[derive(Clone, Copy)]
 struct Run {
     // Bytes at the start of the text that are read and not yet recorded.
     have: usize,
@@ -22,7 +24,7 @@ struct Run {
 }
 
 // What became of a text's lines.
-#[derive(Drop)]
+#[derive(Clone, Copy)]
 struct Lines {
     // The place of the first byte that is not recorded.
     at: usize,
@@ -32,7 +34,7 @@ struct Lines {
 }
 
 // How many bytes came, and whether the read failed.
-#[derive(Drop)]
+#[derive(Clone, Copy)]
 struct Input {
     count: usize,
     failed: bool,

@@ -1,6 +1,8 @@
 // A recording replayed from a lent store into a lent output (01, "Recordings"; request E4): a piece at a time, and a piece in several
 // feeds where the output is short.
 
+#![tactic(auto)]
+
 ghost use Rattle.std.specs.Prelude.{◌≡◌, ◌≤◌, ◌++◌, length, ltb, eqb, cond};
 ghost use Rattle.rules.specs.Paper.{X, number};
 ghost use Rattle.lines.specs.Lines.{line_of, longest};
@@ -14,7 +16,7 @@ use rules::{Answer, Event, Refusal};
 use transcript::Fed;
 
 // How far a feed went through the records: the place, how it ended there, and how many bytes of the output were written.
-#[derive(Drop)]
+#[derive(Clone, Copy)]
 struct Stepped {
     at: usize,
     how: How,

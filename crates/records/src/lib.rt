@@ -1,5 +1,7 @@
 // A recording's records, from bytes to events (01, "Recordings"): a cursor by value over the lent bytes.
 
+#![tactic(auto)]
+
 ghost use Rattle.std.specs.Prelude.{◌≡◌, ◌+◌, ◌≤◌, ◌<◌, length};
 ghost use Rattle.records.specs.Bytes.{low_first, signed};
 ghost use Rattle.records.specs.Kinds.{body_of};
@@ -8,13 +10,13 @@ ghost use Rattle.records.specs.Records.{reference_at, change_at, event_of, recor
 use rules::{Event, Reference, Refusal};
 
 // A place in a recording.
-#[derive(Drop)]
+#[derive(Clone, Copy)]
 pub struct Cursor {
     pub at: usize,
 }
 
 // What stands at a cursor.
-#[derive(Drop)]
+#[derive(Clone, Copy)]
 pub enum Found {
     // A whole record: its event, and the cursor past it.
     Whole(Event, Cursor),

@@ -1,5 +1,7 @@
 // A reference: rules 1 to 3 over the store; rules 4 to 9 are `ruling`'s.
 
+#![tactic(auto)]
+
 ghost use Rattle.std.specs.Prelude.{◌≡◌, ◌≤◌, ◌<◌, length};
 ghost use Rattle.rules.specs.Paper.{paper};
 ghost use Rattle.rules.specs.Words.{enables_d};

@@ -1,5 +1,7 @@
 // Register read and register write: the place is found once.
 
+#![tactic(auto)]
+
 ghost use Rattle.std.specs.Prelude.{◌≡◌, ◌≤◌, ◌<◌, length};
 ghost use Rattle.rules.specs.Paper.{paper};
 ghost use Rattle.rules.specs.Words.{implemented as implemented_of};
@@ -12,7 +14,7 @@ ghost use Rattle.registers.specs.Taken.{taken_of};
 use rules::{Answer, Refusal};
 
 // Where an address leads.
-#[derive(Drop)]
+#[derive(Clone, Copy)]
 pub enum Found {
     Place(usize),
     Nowhere(Refusal),

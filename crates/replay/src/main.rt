@@ -2,6 +2,8 @@
 // standard output (01, "Recordings"), a piece at a time (request E4). If it can't read or write, it says so on standard
 // error and stops.
 
+#![tactic(auto)]
+
 ghost use Rattle.std.specs.Prelude.{length};
 ghost use Rattle.transcript.specs.Claims.{Roomy};
 

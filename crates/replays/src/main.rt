@@ -2,6 +2,8 @@
 // every place. Above each stand its lines, worked out by hand from document 01 and requests E1 and E4; the file `stdout` has
 // them all.
 
+#![tactic(auto)]
+
 ghost use Rattle.std.specs.Prelude.{◌≡◌, length};
 
 use libc::STDOUT_FILENO;

@@ -1,10 +1,12 @@
 // The types of document 01. What they mean is in specs/.
 
+#![tactic(auto)]
+
 ghost use Rattle.std.specs.Prelude.{◌≡◌};
 ghost use Rattle.rules.specs.Paper.{number as number_of};
 
 // A reference (01, "A reference"). The numbers are as the caller gives them; rules and refusals judge them.
-#[derive(Drop)]
+#[derive(Clone, Copy)]
 pub struct Reference {
     pub mode: u32,
     pub space: u32,
@@ -14,7 +16,7 @@ pub struct Reference {
 }
 
 // Everything that can happen to the unit.
-#[derive(Drop)]
+#[derive(Clone, Copy)]
 pub enum Event {
     Refer(Reference),
     Read { address: u32 },
@@ -26,7 +28,7 @@ pub enum Event {
 }
 
 // What is refused, in the order of 01's table, 1 to 13; then 14 of request E2.
-#[derive(Drop)]
+#[derive(Clone, Copy)]
 pub enum Refusal {
     Store,
     Mode,
@@ -67,14 +69,14 @@ pub fn number(r: Refusal) -> u32
 }
 
 // Which page let a reference through (request E1): its place among the 48, counted as in the store; none where rule 1 grants.
-#[derive(Drop)]
+#[derive(Clone, Copy)]
 pub enum Served {
     Page(u8),
     None,
 }
 
 // What the unit answers.
-#[derive(Drop)]
+#[derive(Clone, Copy)]
 pub enum Answer {
     Granted {
         byte: u32,
@@ -92,7 +94,7 @@ pub enum Answer {
 }
 
 // What a page's key allows, and on which access its trap condition holds (Table 2-2).
-#[derive(Drop)]
+#[derive(Clone, Copy)]
 pub struct Right {
     pub read: bool,
     pub write: bool,

@@ -1,5 +1,7 @@
 // What the words of one page say of a reference: rules 4 to 9, by value.
 
+#![tactic(auto)]
+
 ghost use Rattle.std.specs.Prelude.{◌≡◌, ◌≤◌, cond};
 ghost use Rattle.rules.specs.Paper.{paper};
 ghost use Rattle.rules.specs.Keys.{key_of, right_of};
@@ -10,7 +12,7 @@ ghost use Rattle.ruling.specs.Rulings.{ruling_of, abort_of, grant_of};
 use rules::{Answer, Right, Served};
 
 // The answer, and the page's PDR and SR0 afterwards.
-#[derive(Drop)]
+#[derive(Clone, Copy)]
 pub struct Ruling {
     pub answer: Answer,
     pub pdr: u16,

@@ -1,5 +1,7 @@
 // A line of events as text, recorded: read by `notation`, written by `writer`.
 
+#![tactic(auto)]
+
 ghost use Rattle.std.specs.Prelude.{◌≡◌};
 ghost use Rattle.script.specs.Recording.{record_line, write_byte};
 
@@ -7,7 +9,7 @@ use notation::{Expected, Line};
 use writer::Wrote;
 
 // What became of a line.
-#[derive(Drop)]
+#[derive(Clone, Copy)]
 pub enum Recorded {
     // The new number of bytes used: the same for a line without a word.
     Upto(usize),

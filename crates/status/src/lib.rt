@@ -1,10 +1,12 @@
 // The four status words as a small record, changed in place by the two start events.
 // Each function is thin over `started`, which does the work by value.
 
+#![tactic(auto)]
+
 ghost use Rattle.std.specs.Prelude.{◌≡◌};
 ghost use Rattle.status.specs.Starts.{started_of};
 
-#[derive(Drop)]
+#[derive(Clone, Copy)]
 pub struct Status {
     pub sr0: u16,
     pub sr1: u16,

@@ -1,12 +1,14 @@
 // Standard input a piece at a time, by way of one lent buffer.
 
+#![tactic(auto)]
+
 ghost use Rattle.stream.specs.Ready.{Ready, Stays};
 
 use libc::STDIN_FILENO;
 
 // The bytes of the buffer that lie ready, from a place up to an end; whether no more come, and then there are none; and whether a
 // read failed.
-#[derive(Drop)]
+#[derive(Clone, Copy)]
 pub struct Input {
     pub from: usize,
     pub to: usize,

@@ -1,6 +1,8 @@
 // What C and Rust link to replay a recording (01, "Recordings"; request E4): a piece at a time, into a lent output. The state between
 // pieces is lent as eleven words, all 0 before the first byte; specs/Tapes.antt and include/kt11c.h say what each holds.
 
+#![tactic(auto)]
+
 ghost use Rattle.std.specs.Prelude.{◌≡◌, ◌%◌, min};
 ghost use Rattle.rules.specs.Words.{bit};
 ghost use Rattle.transcript.specs.Feeding.{fed};

@@ -1,5 +1,7 @@
 // The report of an audit as text, a line for each thing it says.
 
+#![tactic(auto)]
+
 ghost use Rattle.std.specs.Prelude.{◌≡◌, ◌≤◌, length};
 ghost use Rattle.wording.specs.Texts.{placed_of};
 

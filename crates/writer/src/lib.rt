@@ -1,5 +1,7 @@
 // An event's record, appended to a lent buffer (request E2).
 
+#![tactic(auto)]
+
 mod judging;
 mod putting;
 
@@ -9,7 +11,7 @@ ghost use Rattle.writer.specs.Writing.{said, write as write_of};
 use rules::{Event, Refusal};
 
 // What writing answers.
-#[derive(Drop)]
+#[derive(Clone, Copy)]
 pub enum Wrote {
     // The new number of bytes used.
     Upto(usize),

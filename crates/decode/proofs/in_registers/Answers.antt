@@ -1,0 +1,6 @@
+-- `in_registers` meets its contract: it is the definition, by what `register_at` ensures.
+use borrow.Author.Rules.{rules}
+use Rattle.decode.proofs.in_registers.Goals as goal
+
+pub returns : goal.returns
+returns c = rw c.register_at.ensures

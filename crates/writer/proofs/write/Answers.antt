@@ -1,0 +1,22 @@
+-- `write` meets its contract: what is judged is answered, and the record is stored where the answer is a number of bytes used.
+use lib.Seq.{sets-eq}
+use borrow.Author.Tests.{eq-eqb}
+use borrow.Author.Rules.{rules}
+use Rattle.writer.specs.Writing.{write}
+use Rattle.writer.proofs.Judged.{fitting, used_tells, refusing}
+use Rattle.writer.proofs.write.Goals as goal
+
+pub put-requires : goal.put-requires
+put-requires c =
+    (used_tells _ _ _ (rw c.in-Upto.is at c.judge.ensures)).0
+
+pub returns-in-Refused : goal.returns-in-Refused
+returns-in-Refused c =
+    refusing _ _ _ _ (rw c.in-Refused.is at c.judge.ensures)
+
+pub returns-in-Upto : goal.returns-in-Upto
+unfolding write
+returns-in-Upto c =
+    let told = rw c.in-Upto.is at c.judge.ensures in
+    let accepted = (used_tells _ _ _ told).0 in
+    rw (told, c.put.ensures, eq-eqb _ 0 accepted, sets-eq _ _ _ (fitting _ _ _ accepted))
