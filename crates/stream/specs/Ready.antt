@@ -11,4 +11,8 @@ pub record Ready (i : Input) (buffer : List ℕ) : Type 0 where
 -- bytes that still lie ready stay as they are
 abbrev pub Stays : ℕ → ℕ → List ℕ → Input → List ℕ → Type 0
 Stays from to before i after =
-    from < to → to ≤ length before → (i ≡ record { from = from; to = to; last = false; failed = false }) × (after ≡ before)
+    from < to → to ≤ length before → (i ≡ record { from = from; to = to; last = false }) × (after ≡ before)
+
+-- no bytes still lie ready
+abbrev pub Spent : ℕ → ℕ → List ℕ → Type 0
+Spent from to before = from < to → to ≤ length before → ⊥

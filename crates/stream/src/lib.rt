@@ -1,49 +1,53 @@
-// Standard input a piece at a time, by way of one lent buffer.
+// Input a piece at a time, by way of one lent buffer.
 
 #![tactic(auto)]
 
-ghost use Rattle.stream.specs.Ready.{Ready, Stays};
+ghost use Rattle.std.specs.Prelude.{IfOk, OnErr};
+ghost use Rattle.stream.specs.Ready.{Ready, Stays, Spent};
 
-use libc::STDIN_FILENO;
+use std::io;
+use std::io::Read;
 
-// The bytes of the buffer that lie ready, from a place up to an end; whether no more come, and then there are none; and whether a
-// read failed.
+// The bytes of the buffer that lie ready, from a place up to an end; and whether no more come, and then there are none.
 #[derive(Clone, Copy)]
 pub struct Input {
     pub from: usize,
     pub to: usize,
     pub last: bool,
-    pub failed: bool,
 }
 
 // one read into the whole buffer
-fn refill(buffer: &mut [u8]) -> Input
-    ensures { Ready result buffer.new }
+fn refill<R: Read>(reader: &mut R, buffer: &mut [u8]) -> io::Result<Input>
+    ensures { IfOk result (λ i. Ready i buffer.new) }
 {
-    let got = libc::read(STDIN_FILENO, buffer);
-    let to = io::count(got, buffer);
-    Input {
+    let to = reader.read(buffer)?;
+    Ok(Input {
         from: 0,
         to,
         last: to == 0,
-        failed: got < 0,
-    }
+    })
 }
 
-// What lies ready: the bytes still there, or, where there are none, those of another read.
-pub fn more(buffer: &mut [u8], from: usize, to: usize) -> Input
-    ensures { Ready result buffer.new × Stays from to buffer.old result buffer.new }
+// What lies ready: the bytes still there, or, where there are none, those of another read. It fails only where that read does.
+pub fn more<R: Read>(
+    reader: &mut R,
+    buffer: &mut [u8],
+    from: usize,
+    to: usize,
+) -> io::Result<Input>
+    ensures ready { IfOk result (λ i. Ready i buffer.new) }
+    ensures stays { IfOk result (λ i. Stays from to buffer.old i buffer.new) }
+    ensures failed { OnErr result (Spent from to buffer.old) }
 {
     if to <= from {
-        return refill(buffer);
+        return refill(reader, buffer);
     }
     if buffer.len() < to {
-        return refill(buffer);
+        return refill(reader, buffer);
     }
-    Input {
+    Ok(Input {
         from,
         to,
         last: false,
-        failed: false,
-    }
+    })
 }
