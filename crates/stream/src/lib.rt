@@ -3,7 +3,7 @@
 #![tactic(auto)]
 
 ghost use Rattle.std.specs.Prelude.{IfOk, OnErr};
-ghost use Rattle.stream.specs.Ready.{Ready, Stays, Spent};
+ghost use Rattle.stream.specs.Ready.{Ready, Stays, Spent, Brought};
 
 use std::io;
 use std::io::Read;
@@ -18,7 +18,8 @@ pub struct Input {
 
 // one read into the whole buffer
 fn refill<R: Read>(reader: &mut R, buffer: &mut [u8]) -> io::Result<Input>
-    ensures { IfOk result (λ i. Ready i buffer.new) }
+    ensures ready { IfOk result (λ i. Ready i buffer.new) }
+    ensures brought { Brought (R.remaining reader.old) (R.remaining reader.new) 0 0 buffer.old result buffer.new }
 {
     let to = reader.read(buffer)?;
     Ok(Input {
@@ -38,6 +39,7 @@ pub fn more<R: Read>(
     ensures ready { IfOk result (λ i. Ready i buffer.new) }
     ensures stays { IfOk result (λ i. Stays from to buffer.old i buffer.new) }
     ensures failed { OnErr result (Spent from to buffer.old) }
+    ensures brought { Brought (R.remaining reader.old) (R.remaining reader.new) from to buffer.old result buffer.new }
 {
     if to <= from {
         return refill(reader, buffer);
