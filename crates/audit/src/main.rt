@@ -4,39 +4,47 @@
 #![tactic(auto)]
 
 use account::Survey;
-use libc::STDOUT_FILENO;
+use std::io;
+use std::io::{Read, Write};
+use stream::Failed;
 
 // The report of an audit at its end.
-fn tell(registers: &[u16], survey: Survey) {
-    let mut text = io::buffer();
+fn tell<W: Write>(output: &mut W, registers: &[u16], survey: Survey) -> io::Result<()> {
+    let mut text = [0u8; 4096];
     let n = wording::write(&mut text, account::finish(registers, survey));
-    if !io::write_all(STDOUT_FILENO, &text[..n]) {
-        os::fail(b"audit: standard output");
-    }
+    output.write_all(&text[..n])
 }
 
 // The audit from a store, a piece of the input after the other.
-fn audit(registers: &mut [u16], piece: &mut [u8]) {
+fn audit<R: Read, W: Write>(
+    input: &mut R,
+    output: &mut W,
+    registers: &mut [u16],
+    piece: &mut [u8],
+) -> Result<(), Failed> {
     let mut survey = account::begin(registers);
     loop {
-        let input = stream::more(piece, 0, 0);
-        if input.failed {
-            os::fail(b"audit: standard input");
-            return;
-        }
-        let start = input.from;
-        let end = input.to;
-        survey = account::feed(registers, survey, &piece[start..end], input.last);
+        let ready = stream::more(input, piece, 0, 0).map_err(Failed::Input)?;
+        let start = ready.from;
+        let end = ready.to;
+        survey = account::feed(registers, survey, &piece[start..end], ready.last);
         let begun = survey.begun;
         if begun.over {
-            tell(registers, survey);
-            return;
+            return tell(output, registers, survey).map_err(Failed::Output);
         }
     }
 }
 
-fn main() {
+fn main(rt: HostRuntime) {
     let mut registers = [0u16; 100];
-    let mut piece = io::buffer();
-    audit(&mut registers, &mut piece);
+    let mut piece = [0u8; 4096];
+    let audited = audit(
+        &mut rt.stdin(),
+        &mut rt.stdout(),
+        &mut registers,
+        &mut piece,
+    );
+    if let Err(failed) = audited {
+        let _ = eprintln!(rt; "audit: {failed}");
+    }
 }

@@ -1,60 +1,61 @@
 // What is said on standard error of a bad line (docs/NOTATION.md, "A bad line").
 
-use libc::STDERR_FILENO;
 use notation::{Expected, Field};
 
-fn say(text: &[u8]) {
-    io::write_all(STDERR_FILENO, text);
+// where standard error can't be written, nobody is told
+fn say(rt: &impl Eprint, text: &str) {
+    let _ = rt.eprint(text);
 }
 
 // a field with words of its own
-fn words(field: &[u8]) {
-    say(field);
-    say(b", or an octal number to 377");
+fn words(rt: &impl Eprint, field: &str) {
+    say(rt, field);
+    say(rt, ", or an octal number to 377");
 }
 
 // a field with numbers alone
-fn number(field: &[u8], most: &[u8]) {
-    say(field);
-    say(b": an octal number to ");
-    say(most);
+fn number(rt: &impl Eprint, field: &str, most: &str) {
+    say(rt, field);
+    say(rt, ": an octal number to ");
+    say(rt, most);
 }
 
-fn field(f: Field) {
+fn field(rt: &impl Eprint, f: Field) {
     match f {
-        Field::Mode => words(b"a mode: kernel, supervisor, illegal, user"),
-        Field::Space => words(b"a space: instruction, data"),
-        Field::Access => words(b"an access: read, write"),
-        Field::Phase => words(b"a phase: instruction, trap"),
-        Field::Va => number(b"a VA", b"177777"),
-        Field::Value => number(b"a value", b"177777"),
-        Field::Vector => number(b"a vector", b"177777"),
-        Field::Address => number(b"an address", b"77777777"),
-        Field::Register => number(b"a register", b"377"),
-        Field::Byte => number(b"a byte", b"377"),
+        Field::Mode => words(rt, "a mode: kernel, supervisor, illegal, user"),
+        Field::Space => words(rt, "a space: instruction, data"),
+        Field::Access => words(rt, "an access: read, write"),
+        Field::Phase => words(rt, "a phase: instruction, trap"),
+        Field::Va => number(rt, "a VA", "177777"),
+        Field::Value => number(rt, "a value", "177777"),
+        Field::Vector => number(rt, "a vector", "177777"),
+        Field::Address => number(rt, "an address", "77777777"),
+        Field::Register => number(rt, "a register", "377"),
+        Field::Byte => number(rt, "a byte", "377"),
     }
 }
 
-fn begin(line: u64) {
-    say(b"record: line ");
-    io::print_decimal(STDERR_FILENO, line);
-    say(b": expected ");
+fn begin(rt: &impl Eprint, line: u64) {
+    let _ = eprint!(rt; "record: line {line}: expected ");
 }
 
-pub(crate) fn bad(line: u64, expected: Expected) {
-    begin(line);
+pub(crate) fn bad(rt: &impl Eprint, line: u64, expected: Expected) {
+    begin(rt, line);
     match expected {
         Expected::Name => {
-            say(b"one of reference, read, write, instruction, interrupt, change, init, byte")
+            say(
+                rt,
+                "one of reference, read, write, instruction, interrupt, change, init, byte",
+            )
         }
-        Expected::Field(f) => field(f),
-        Expected::Amount => say(b"an amount: an octal number from -200 to 177"),
-        Expected::End => say(b"the end of the line"),
+        Expected::Field(f) => field(rt, f),
+        Expected::Amount => say(rt, "an amount: an octal number from -200 to 177"),
+        Expected::End => say(rt, "the end of the line"),
     }
-    say(b"\n");
+    say(rt, "\n");
 }
 
-pub(crate) fn long(line: u64) {
-    begin(line);
-    say(b"a line of at most 4095 bytes\n");
+pub(crate) fn long(rt: &impl Eprint, line: u64) {
+    begin(rt, line);
+    say(rt, "a line of at most 4095 bytes\n");
 }

@@ -6,10 +6,11 @@
 
 mod complaint;
 
-ghost use Rattle.std.specs.Prelude.{◌≡◌, ◌+◌, ◌<◌, ◌≤◌, length};
+ghost use Rattle.std.specs.Prelude.{◌≡◌, ◌+◌, ◌<◌, ◌≤◌, length, IfOk};
 
-use libc::{STDIN_FILENO, STDOUT_FILENO};
 use script::Recorded;
+use std::io;
+use std::io::Read;
 
 // Where a run stands.
 #[derive(Clone, Copy)]
@@ -33,39 +34,35 @@ struct Lines {
     over: bool,
 }
 
-// How many bytes came, and whether the read failed.
-#[derive(Clone, Copy)]
-struct Input {
-    count: usize,
-    failed: bool,
-}
-
-// one read, into the text from a place on
-fn read_at(text: &mut [u8], at: usize) -> Input
+// one read, into the text from a place on; how many bytes came
+fn read_at<R: Read>(input: &mut R, text: &mut [u8], at: usize) -> io::Result<usize>
     requires { at ≤ length text.old }
-    ensures { at + result.count ≤ length text.old }
+    ensures { IfOk result (λ count. at + count ≤ length text.old) }
 {
-    let part = &mut text[at..];
-    let got = libc::read(STDIN_FILENO, part);
-    Input {
-        count: io::count(got, part),
-        failed: got < 0,
-    }
+    input.read(&mut text[at..])
 }
 
 // writes the bytes used; whether that went well
-fn flush(out: &[u8], used: usize) -> bool
+fn flush(rt: &(impl Print + Eprint), out: &[u8], used: usize) -> bool
     requires { used ≤ length out.now }
 {
-    if io::write_all(STDOUT_FILENO, &out[..used]) {
-        return true;
+    match rt.write_all(&out[..used]) {
+        Ok(()) => true,
+        Err(error) => {
+            let _ = eprintln!(rt; "record: standard output: {error}");
+            false
+        }
     }
-    os::fail(b"record: standard output");
-    false
 }
 
 // every line that has its line feed; a full output is written, and the line taken again
-fn record_lines(text: &[u8], out: &mut [u8], used: usize, line: u64) -> Lines
+fn record_lines(
+    rt: &(impl Print + Eprint),
+    text: &[u8],
+    out: &mut [u8],
+    used: usize,
+    line: u64,
+) -> Lines
     requires { (7 ≤ length out.old) × (used ≤ length out.old) }
     ensures { (result.at ≤ length text.now) × (result.used ≤ length out.old) }
 {
@@ -79,15 +76,15 @@ fn record_lines(text: &[u8], out: &mut [u8], used: usize, line: u64) -> Lines
             Recorded::Upto(next) => {
                 at = end + 1;
                 used = next;
-                line = std::num::wrapping_add_u64(line, 1);
+                line = line.wrapping_add(1);
                 end = notation::line_end(text, at);
             }
             Recorded::Full => {
-                over = !flush(out, used);
+                over = !flush(rt, out, used);
                 used = 0;
             }
             Recorded::Bad(expected) => {
-                complaint::bad(line, expected);
+                complaint::bad(rt, line, expected);
                 over = true;
             }
         }
@@ -127,11 +124,18 @@ fn over(used: usize, line: u64) -> Run
 }
 
 // the lines that end in the text's bytes, and what follows the last of them kept
-fn go_on(text: &mut [u8], have: usize, out: &mut [u8], used: usize, line: u64) -> Run
+fn go_on(
+    rt: &(impl Print + Eprint),
+    text: &mut [u8],
+    have: usize,
+    out: &mut [u8],
+    used: usize,
+    line: u64,
+) -> Run
     requires { (0 < length text.old) × (have ≤ length text.old) × (7 ≤ length out.old) × (used ≤ length out.old) }
     ensures { (result.have < length text.old) × (result.used ≤ length out.old) }
 {
-    let lines = record_lines(&text[..have], out, used, line);
+    let lines = record_lines(rt, &text[..have], out, used, line);
     if lines.over {
         return over(lines.used, lines.line);
     }
@@ -144,41 +148,55 @@ fn go_on(text: &mut [u8], have: usize, out: &mut [u8], used: usize, line: u64) -
             over: false,
         };
     }
-    complaint::long(lines.line);
+    complaint::long(rt, lines.line);
     over(lines.used, lines.line)
 }
 
 // the last line, which needs no line feed
-fn finish(text: &mut [u8], have: usize, out: &mut [u8], used: usize, line: u64) -> Run
+fn finish(
+    rt: &(impl Print + Eprint),
+    text: &mut [u8],
+    have: usize,
+    out: &mut [u8],
+    used: usize,
+    line: u64,
+) -> Run
     requires { (have < length text.old) × (7 ≤ length out.old) × (used ≤ length out.old) }
     ensures { (result.have ≡ 0) × (result.used ≤ length out.old) }
 {
     text[have] = b'\n';
     let all = have + 1;
-    let lines = record_lines(&text[..all], out, used, line);
+    let lines = record_lines(rt, &text[..all], out, used, line);
     over(lines.used, lines.line)
 }
 
 // one read, and what it brings
-fn turn(text: &mut [u8], out: &mut [u8], run: Run) -> Run
+fn turn<R: Read>(
+    rt: &(impl Print + Eprint),
+    input: &mut R,
+    text: &mut [u8],
+    out: &mut [u8],
+    run: Run,
+) -> Run
     requires { (run.have < length text.old) × (7 ≤ length out.old) × (run.used ≤ length out.old) }
     ensures { (result.have < length text.old) × (result.used ≤ length out.old) }
 {
     let have = run.have;
-    let input = read_at(text, have);
-    if input.failed {
-        os::fail(b"record: standard input");
-        return over(run.used, run.line);
-    }
-    let count = input.count;
+    let count = match read_at(input, text, have) {
+        Ok(count) => count,
+        Err(error) => {
+            let _ = eprintln!(rt; "record: standard input: {error}");
+            return over(run.used, run.line);
+        }
+    };
     if count == 0 {
-        return finish(text, have, out, run.used, run.line);
+        return finish(rt, text, have, out, run.used, run.line);
     }
-    go_on(text, have + count, out, run.used, run.line)
+    go_on(rt, text, have + count, out, run.used, run.line)
 }
 
 // A proved loop has to end, and nothing says that the input does: so the turns are counted down from a number that no run uses up.
-fn record(text: &mut [u8], out: &mut [u8])
+fn record<R: Read>(rt: &(impl Print + Eprint), input: &mut R, text: &mut [u8], out: &mut [u8])
     requires { (7 ≤ length out.old) × (0 < length text.old) }
 {
     let mut run = Run {
@@ -189,14 +207,14 @@ fn record(text: &mut [u8], out: &mut [u8])
     };
     let mut turns = u64::MAX;
     while turns > 0 && !run.over {
-        run = turn(text, out, run);
+        run = turn(rt, input, text, out, run);
         turns -= 1;
     }
-    flush(out, run.used);
+    flush(rt, out, run.used);
 }
 
-fn main() {
-    let mut text = io::buffer();
-    let mut out = io::buffer();
-    record(&mut text, &mut out);
+fn main(rt: HostRuntime) {
+    let mut text = [0u8; 4096];
+    let mut out = [0u8; 4096];
+    record(&rt, &mut rt.stdin(), &mut text, &mut out);
 }

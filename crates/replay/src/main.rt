@@ -7,39 +7,49 @@
 ghost use Rattle.std.specs.Prelude.{length};
 ghost use Rattle.transcript.specs.Claims.{Roomy};
 
-use libc::STDOUT_FILENO;
+use std::io::{Read, Write};
+use stream::Failed;
 
 // The transcript from a store: a piece of the input after the other, and a buffer of text after the other.
-fn replay(registers: &mut [u16], piece: &mut [u8], text: &mut [u8])
+fn replay<R: Read, W: Write>(
+    input: &mut R,
+    output: &mut W,
+    registers: &mut [u16],
+    piece: &mut [u8],
+    text: &mut [u8],
+) -> Result<(), Failed>
     requires { Roomy (length text.old) }
 {
     let mut begun = pieces::fresh();
     let mut from = 0;
     let mut to = 0;
     while !begun.over {
-        let input = stream::more(piece, from, to);
-        if input.failed {
-            os::fail(b"replay: standard input");
-            return;
-        }
-        let start = input.from;
-        let end = input.to;
-        let fed = recording::feed(registers, begun, &piece[start..end], input.last, text);
+        let ready = stream::more(input, piece, from, to).map_err(Failed::Input)?;
+        let start = ready.from;
+        let end = ready.to;
+        let fed = recording::feed(registers, begun, &piece[start..end], ready.last, text);
         let written = fed.written;
-        if !io::write_all(STDOUT_FILENO, &text[..written]) {
-            os::fail(b"replay: standard output");
-            return;
-        }
+        output.write_all(&text[..written]).map_err(Failed::Output)?;
         let reached = fed.reached;
         from = start + reached.taken;
         to = end;
         begun = reached.begun;
     }
+    Ok(())
 }
 
-fn main() {
+fn main(rt: HostRuntime) {
     let mut registers = [0u16; 100];
-    let mut piece = io::buffer();
-    let mut text = io::buffer();
-    replay(&mut registers, &mut piece, &mut text);
+    let mut piece = [0u8; 4096];
+    let mut text = [0u8; 4096];
+    let replayed = replay(
+        &mut rt.stdin(),
+        &mut rt.stdout(),
+        &mut registers,
+        &mut piece,
+        &mut text,
+    );
+    if let Err(failed) = replayed {
+        let _ = eprintln!(rt; "replay: {failed}");
+    }
 }

@@ -33,5 +33,5 @@ abbrev pub Brought : {E : Type 0} → Option (List ℕ) → Option (List ℕ) �
 Brought old new from to before r after =
     MatchResult r
     (λ i. Consumes (prepend_known (waiting from to before) old) new (part i.from i.to after)
-        × (i.last ≡ true → 0 < length after → IsAtEnd new))
+    × (i.last ≡ true → 0 < length after → IsAtEnd new))
     (λ _. Keeps old new)

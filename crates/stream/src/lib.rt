@@ -5,8 +5,8 @@
 ghost use Rattle.std.specs.Prelude.{IfOk, OnErr};
 ghost use Rattle.stream.specs.Ready.{Ready, Stays, Spent, Brought};
 
-use std::io;
 use std::io::Read;
+use std::{fmt, io};
 
 // The bytes of the buffer that lie ready, from a place up to an end; and whether no more come, and then there are none.
 #[derive(Clone, Copy)]
@@ -30,12 +30,7 @@ fn refill<R: Read>(reader: &mut R, buffer: &mut [u8]) -> io::Result<Input>
 }
 
 // What lies ready: the bytes still there, or, where there are none, those of another read. It fails only where that read does.
-pub fn more<R: Read>(
-    reader: &mut R,
-    buffer: &mut [u8],
-    from: usize,
-    to: usize,
-) -> io::Result<Input>
+pub fn more<R: Read>(reader: &mut R, buffer: &mut [u8], from: usize, to: usize) -> io::Result<Input>
     ensures ready { IfOk result (λ i. Ready i buffer.new) }
     ensures stays { IfOk result (λ i. Stays from to buffer.old i buffer.new) }
     ensures failed { OnErr result (Spent from to buffer.old) }
@@ -52,4 +47,20 @@ pub fn more<R: Read>(
         to,
         last: false,
     })
+}
+
+// What a program could not do: read its input, or write its output.
+#[derive(Clone, Copy)]
+pub enum Failed {
+    Input(io::Error),
+    Output(io::Error),
+}
+
+impl fmt::Display for Failed {
+    fn fmt<W: fmt::Write>(&self, f: &mut fmt::Formatter<W>) -> fmt::Result {
+        match self {
+            Failed::Input(error) => write!(f, "standard input: {error}"),
+            Failed::Output(error) => write!(f, "standard output: {error}"),
+        }
+    }
 }
