@@ -1,6 +1,5 @@
 -- `register_at` meets its contract: its tests are those of `by_part`, which is 01's list of addresses by `same`.
 use borrow.Author.Tests.{eq-eqb, ne_eqb}
-use borrow.Author.Rules.{rules}
 use Rattle.decode.specs.Parts.{by_part}
 use Rattle.decode.proofs.Same.{same}
 use Rattle.decode.proofs.register_at.Goals as goal

@@ -4,7 +4,7 @@ use mathlib.Core.Bool.{Bool, true, false, cond}
 use Prim.Native.Nat.{ℕ, zero, suc, ◌-◌, ◌*◌, ◌/◌, ◌%◌, ◌^◌, ◌≤◌, ◌<◌}
 use native.Mathlib.Nat.{mod-eq_of_lt, zero-mul, one-mul}
 use native.Mathlib.Omega.{arith}
-use lib.Bits.{bit_and, bit_xor, xor_zero_r, xor_add_and, and_mask}
+use lib.Bits.{bit_xor, xor_zero_r, xor_add_and, and_mask}
 use lib.Dec.{ltb, eqb}
 use borrow.Author.Rules.{rules}
 use borrow.Author.Tests.{ltb-true, ltb-false, lt-ltb, le-ltb}
