@@ -9,8 +9,7 @@ use lib.Dec.{ltb, eqb}
 use borrow.Author.Rules.{rules}
 use borrow.Author.Tests.{ltb-true, ltb-false, lt-ltb, le-ltb}
 use Rattle.page.specs.Length.{length_error}
-use Rattle.page.proofs.length_error.Statement.{statement}
-use Rattle.page.proofs.length_error.Tie as tie
+use Rattle.page.proofs.length_error.Goals as goal
 
 -- a number of k bits with every bit flipped
 flipped : (k n : ℕ) → n < 2 ^ k → bit_xor n (2 ^ k - 1) ≡ 2 ^ k - 1 - n
@@ -37,11 +36,8 @@ by-ed k (suc zero) a b r p q =
     rw (one-mul (2 ^ k - 1), flipped k a p, flipped k b q) (turned (2 ^ k - 1) a b (omega arith) (omega arith) (ltb b a) refl)
 by-ed k (suc (suc n)) a b r p q = absurd (omega arith)
 
-returns : tie.Need-returns
+pub returns : goal.returns
 unfolding length_error
 returns c =
     let pdr = c.args.pdr in
     by-ed 16 (pdr / 8 % 2) (pdr / 256 % 128) c.args.block (omega arith) (omega arith) (omega arith)
-
-pub length_error_spec : {M : Type 1} → statement M
-length_error_spec = tie.close (tie.spec (λ c. search rules) returns)
