@@ -15,8 +15,7 @@ use Rattle.lines.specs.Lines.{line_of, longest, placed}
 use Rattle.lines.proofs.Lengths.{some, most}
 use Rattle.lines.proofs.Output.{fits, unfit}
 use Rattle.recording.specs.Parts.{taken}
-use Rattle.recording.proofs.take_event.Statement.{statement}
-use Rattle.recording.proofs.take_event.Tie as tie
+use Rattle.recording.proofs.take_event.Goals as goal
 
 module _ (l : List ℕ) (e : Event) (out : List ℕ) (n : ℕ) (w : n ≤ length out) where
   -- by whether the line fits
@@ -50,24 +49,7 @@ module _ (l : List ℕ) (e : Event) (out : List ℕ) (n : ℕ) (w : n ≤ length
   taking p l' spare spare' k out' l'' v q u x =
       rw (x, v) (by-room (leb (length (line_of p)) (length out - n)) p l' spare k out' refl q u)
 
-returns : tie.Need-returns
+pub returns : goal.returns
 returns c =
-    let put = c.before.before.before.before.before.before.before in
-    let apply = put.before.before.before.before in
-    let keep = apply.before.before.before.before in
-    taking _ _ _ _ keep.before.before.before.before.before.before.requires.1.1 _ _ _ _ _ _ _ keep.keep.ensures
-    apply.apply.ensures put.put.ensures c.before.before.give-back.ensures
-
-pub take_event_spec : {M : Type 1} → statement M
-take_event_spec =
-    tie.close
-    (tie.spec
-    (λ c. search rules)
-    (λ c κs. search rules)
-    (λ c κs. search rules)
-    (λ c κs. search rules)
-    (λ c κs. search rules)
-    (λ c. search rules)
-    (λ c. search rules)
-    (λ c. search rules)
-    returns)
+    taking _ _ _ _ c.requires.1.1 _ _ _ _ _ _ _ c.keep.ensures
+    c.apply-answer.ensures c.put-n.ensures c.give_back.ensures

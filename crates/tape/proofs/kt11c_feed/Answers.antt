@@ -5,8 +5,7 @@ use Prim.Native.Nat.{ℕ}
 use borrow.Author.Rules.{rules}
 use Rattle.transcript.specs.declared.Fed.{Fed}
 use Rattle.tape.specs.Tapes.{words_of, counted}
-use Rattle.tape.proofs.kt11c_feed.Statement.{statement}
-use Rattle.tape.proofs.kt11c_feed.Tie as tie
+use Rattle.tape.proofs.kt11c_feed.Goals as goal
 
 -- what C sees of a feed, with the state's words put in
 seen : (f : Fed) (store out words : List ℕ) (fs : Fed × List ℕ × List ℕ) → words ≡ words_of f.reached → (f, store, out) ≡ fs
@@ -14,19 +13,6 @@ seen : (f : Fed) (store out words : List ℕ) (fs : Fed × List ℕ × List ℕ)
 unfolding counted
 seen f store out words fs w e = rw (← e, w)
 
-returns : tie.Need-returns
+pub returns : goal.returns
 returns c =
-    let fed-at = c.before.before.before.before.before.before in
-    let begun = fed-at.before.before.before in
-    seen _ _ _ _ _ c.words.ensures (rw (← begun.begun.ensures) fed-at.feed.ensures)
-
-pub kt11c_feed_spec : {M : Type 1} → statement M
-kt11c_feed_spec =
-    tie.close
-    (tie.spec
-    (λ c κs. search rules)
-    (λ c κs. search rules)
-    (λ c κs. search rules)
-    (λ c. search rules)
-    (λ c. search rules)
-    returns)
+    seen _ _ _ _ _ c.words.ensures (rw (← c.begun-from.ensures) c.feed-step.ensures)

@@ -15,8 +15,7 @@ use Rattle.pieces.specs.declared.Begun.{Begun}
 use Rattle.transcript.specs.Feeding.{fed}
 use Rattle.transcript.specs.declared.Fed.{Fed}
 use Rattle.tape.specs.Tapes.{wholly}
-use Rattle.tape.proofs.kt11c_replay.Statement.{statement}
-use Rattle.tape.proofs.kt11c_replay.Tie as tie
+use Rattle.tape.proofs.kt11c_replay.Goals as goal
 
 -- from the lesser of the place and the length on
 by_length : (b : Bool) (r : List ℕ) (at : ℕ) → leb at (length r) ≡ b → drop (min at (length r)) r ≡ drop at r
@@ -42,24 +41,7 @@ whole l r at out none n f l' out' h e q =
     let q' : (f, l', out') ≡ fed l (begun (held_of []) at false) (drop at r) true out = rw (← piece r at n e, ← b) q in
     ap (λ (y : Fed × List ℕ × List ℕ). (y.0.written, y.1, y.2)) q'
 
-returns : tie.Need-returns
+pub returns : goal.returns
 returns c =
-    let fed-at = c.before.before.before.before in
-    let counts = fed-at.before.before.before.before in
-    let none = counts.before.before in
-    let a = none.before.before.before.before.args in
-    whole a.store.now a.recording.now a.at a.out.now _ _ _ _ _ none.fresh.ensures counts.least.ensures fed-at.feed.ensures
-
-pub kt11c_replay_spec : {M : Type 1} → statement M
-kt11c_replay_spec =
-    tie.close
-    (tie.spec
-    (λ c κs. search rules)
-    (λ c κs. search rules)
-    (λ c. search rules)
-    (λ c. search rules)
-    (λ c. search rules)
-    (λ c κs. search rules)
-    (λ c. search rules)
-    (λ c. search rules)
-    returns)
+    let a = c.args in
+    whole a.store.now a.recording.now a.at a.out.now _ _ _ _ _ c.fresh-none.ensures c.least-start.ensures c.feed-step.ensures
