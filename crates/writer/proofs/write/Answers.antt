@@ -1,7 +1,6 @@
 -- `write` meets its contract: what is judged is answered, and the record is stored where the answer is a number of bytes used.
 use lib.Seq.{sets-eq}
 use borrow.Author.Tests.{eq-eqb}
-use borrow.Author.Rules.{rules}
 use Rattle.writer.specs.Writing.{write}
 use Rattle.writer.proofs.Judged.{fitting, used_tells, refusing}
 use Rattle.writer.proofs.write.Goals as goal
