@@ -52,11 +52,13 @@ returns-in-6 c = rw (c.in-6.is, c.change_at.ensures)
 
 pub returns-in_default : goal.returns-in_default
 unfolding event_of
-returns-in_default c = let none = c.in_default.in_default-own.rest in rw (
-  ne_eqb _ _ none.0.0.0.0.0.1,
-  ne_eqb _ _ none.0.0.0.0.1,
-  ne_eqb _ _ none.0.0.0.1,
-  ne_eqb _ _ none.0.0.1,
-  ne_eqb _ _ none.0.1,
-  ne_eqb _ _ none.1,
-)
+returns-in_default c =
+    let k = c.args.kind in
+    rw (
+      ne_eqb k 1 (omega arith),
+      ne_eqb k 2 (omega arith),
+      ne_eqb k 3 (omega arith),
+      ne_eqb k 4 (omega arith),
+      ne_eqb k 5 (omega arith),
+      ne_eqb k 6 (omega arith),
+    )

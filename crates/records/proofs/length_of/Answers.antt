@@ -22,8 +22,4 @@ pub returns-in-6 : goal.returns-in-6
 returns-in-6 c = rw c.in-6.is
 
 pub returns-in_default : goal.returns-in_default
-returns-in_default c =
-    let none = c.in_default.in_default-own.rest in
-    let k : c.args.kind ≡ 7 =
-    omega (arith, c.requires, none.0.0.0.0.0.1, none.0.0.0.0.1, none.0.0.0.1, none.0.0.1, none.0.1, none.1) in
-    rw k
+returns-in_default c = let k : c.args.kind ≡ 7 = omega arith in rw k

@@ -1,0 +1,6 @@
+-- Nothing is held, and the place moves on.
+use borrow.Author.Rules.{rules}
+use Rattle.pieces.proofs.closed.Goals as goal
+
+pub returns : goal.returns
+returns c = rw (c.none.ensures, c.onward.ensures)

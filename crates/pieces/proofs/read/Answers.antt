@@ -1,0 +1,6 @@
+-- The record across both parts, ended.
+use borrow.Author.Rules.{rules}
+use Rattle.pieces.proofs.read.Goals as goal
+
+pub returns : goal.returns
+returns c = rw (← c.read_joined.ensures) c.end.ensures
