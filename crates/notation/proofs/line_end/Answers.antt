@@ -1,7 +1,6 @@
 -- The run of what is no line feed, from the place on; beyond the text there is none.
 use native.Mathlib.Omega.{arith}
 use native.Mathlib.Nat.{le_of_lt}
-use borrow.Author.Rules.{rules}
 use Rattle.notation.specs.Words.{not_feed}
 use Rattle.notation.proofs.Parts.{from_on}
 use Rattle.notation.proofs.Runs.{past}

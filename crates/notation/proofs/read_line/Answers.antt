@@ -1,6 +1,5 @@
 -- A line without a word is blank; else its name's place picks what it says.
 use mathlib.Core.Path.{sym, ◌∙◌}
-use borrow.Author.Rules.{rules}
 use Rattle.notation.specs.Lines.{line_of}
 use Rattle.notation.proofs.Emptiness.{no_word, a_word}
 use Rattle.notation.proofs.read_line.Goals as goal

@@ -1,5 +1,4 @@
 -- The sign picks the limit and the number's sign.
-use borrow.Author.Rules.{rules}
 use borrow.Author.Tests.{eq-eqb, ne_eqb}
 use Rattle.notation.proofs.Parts.{from_on}
 use Rattle.notation.proofs.Signs.{no_amount, by_sign}

@@ -1,7 +1,5 @@
 -- Less than none by the number is the amount, and loses nothing as a signed one.
-use mathlib.Core.Path.{sym, ◌∙◌}
 use lib.Dec.{lit≤}
-use borrow.Author.Rules.{rules}
 use Rattle.notation.proofs.Amounts.{fits, fits-less, taken}
 use Rattle.notation.proofs.fields.less.Goals as goal
 
@@ -13,6 +11,3 @@ overflow_sub-result c = fits-less _ _ _ _ c.octal.ensures c.in-Is.is (lit≤ tt)
 
 pub returns-in-Is : goal.returns-in-Is
 returns-in-Is c = taken _ _ _ _ c.octal.ensures c.in-Is.is (lit≤ tt)
-
-pub returns-in-None : goal.returns-in-None
-returns-in-None c = rw (sym c.octal.ensures ∙ c.in-None.is)

@@ -1,5 +1,4 @@
 -- The names are the words of the text that lists them.
-use borrow.Author.Rules.{rules}
 use Rattle.notation.specs.Words.{before, after, words_within}
 use Rattle.notation.proofs.fields.name.Goals as goal
 

@@ -1,12 +1,8 @@
 -- The invariant: the number so far is no larger than allowed, and what is left of the word goes on from it.
-use mathlib.Core.Path.{◌≡◌}
 use mathlib.Core.Logic.{⊎_elim}
-use Prim.Native.Nat.{◌≤◌, ◌-◌}
 use native.Mathlib.Omega.{arith}
-use lib.ListN.{length, drop, get_or}
+use lib.ListN.{get_or}
 use borrow.Author.Rules.{rules}
-use borrow.Author.Tests.{ltb-true, ltb-false}
-use Rattle.notation.specs.Fields.{octal_from, up_to, octal_up_to}
 use Rattle.notation.proofs.Octals.{below-digits, above-digits, no_digits, begins, no_digit, one_more, exceeds, complete}
 use Rattle.notation.proofs.fields.octal.Goals as goal
 
@@ -27,11 +23,10 @@ returns-then-most-n c =
     exceeds _ _ _ _ c.loop-i.invariant.1 c.loop-i-test.true c.if-c-lt48.false (omega arith) c.if-most-n.true
 
 pub loop-i-preserved : goal.loop-i-preserved
-loop-i-preserved c =
-    (
-      omega arith,
-      one_more _ _ _ _ c.loop-i.invariant.1 c.loop-i-test.true c.if-c-lt48.false (omega arith),
-    )
+loop-i-preserved c = (
+  omega arith,
+  one_more _ _ _ _ c.loop-i.invariant.1 c.loop-i-test.true c.if-c-lt48.false (omega arith),
+)
 
 pub returns : goal.returns
 returns c = let loop = c.loop-i in complete _ _ _ _ loop.invariant.1 c.loop-i-test.false loop.invariant.0.1

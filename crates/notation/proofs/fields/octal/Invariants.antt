@@ -1,13 +1,8 @@
 -- The invariant: the number so far is no larger than allowed, and what is left of the word goes on from it.
 use mathlib.Core.Path.{◌≡◌}
-use mathlib.Core.Logic.{⊎_elim}
 use Prim.Native.Nat.{◌≤◌, ◌-◌}
-use native.Mathlib.Omega.{arith}
-use lib.ListN.{length, drop, get_or}
-use borrow.Author.Rules.{rules}
-use borrow.Author.Tests.{ltb-true, ltb-false}
+use lib.ListN.{length, drop}
 use Rattle.notation.specs.Fields.{octal_from, up_to, octal_up_to}
-use Rattle.notation.proofs.Octals.{below-digits, above-digits, no_digits, begins, no_digit, one_more, exceeds, complete}
 use Rattle.notation.proofs.fields.octal.Given as goal
 
 abbrev pub invariant-loop-i : goal.invariant-loop-i

@@ -1,17 +1,9 @@
 -- The invariant: the word is sought among the names that are left.
-use mathlib.Core.Path.{◌≡◌, sym, ◌∙◌}
-use Prim.Native.Nat.{◌+◌, ◌-◌, ◌≤◌}
-use native.Mathlib.Nat.{sub-zero, sub-add-eq}
+use mathlib.Core.Path.{sym, ◌∙◌}
+use native.Mathlib.Nat.{sub-add-eq}
 use native.Mathlib.Omega.{arith}
-use lib.ListN.{length}
-use borrow.Author.Rules.{rules}
-use Rattle.notation.specs.Words.{words_within, words_in}
-use Rattle.notation.specs.Fields.{place_or}
 use Rattle.notation.proofs.Naming.{shorter, sought, here, further}
 use Rattle.notation.proofs.fields.place.Goals as goal
-
-pub loop-left-init : goal.loop-left-init
-loop-left-init c = (search rules, rw sub-zero)
 
 pub returns-then-name-eq0 : goal.returns-then-name-eq0
 returns-then-name-eq0 c = sought _ _ _ _ _ _ c.loop-left.invariant.1 _ c.first_word-name.ensures c.if-name-eq0.true

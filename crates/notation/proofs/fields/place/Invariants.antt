@@ -1,13 +1,9 @@
 -- The invariant: the word is sought among the names that are left.
-use mathlib.Core.Path.{◌≡◌, sym, ◌∙◌}
+use mathlib.Core.Path.{◌≡◌}
 use Prim.Native.Nat.{◌+◌, ◌-◌, ◌≤◌}
-use native.Mathlib.Nat.{sub-zero, sub-add-eq}
-use native.Mathlib.Omega.{arith}
 use lib.ListN.{length}
-use borrow.Author.Rules.{rules}
 use Rattle.notation.specs.Words.{words_within, words_in}
 use Rattle.notation.specs.Fields.{place_or}
-use Rattle.notation.proofs.Naming.{shorter, sought, here, further}
 use Rattle.notation.proofs.fields.place.Given as goal
 
 abbrev pub invariant-loop-left : goal.invariant-loop-left

@@ -1,7 +1,5 @@
 -- The number is the amount, and loses nothing as a signed one.
-use mathlib.Core.Path.{sym, ◌∙◌}
 use lib.Dec.{lit≤}
-use borrow.Author.Rules.{rules}
 use Rattle.notation.proofs.Amounts.{fits, added}
 use Rattle.notation.proofs.fields.plus.Goals as goal
 
@@ -10,6 +8,3 @@ overflow_cast-result c = fits _ _ _ _ c.octal.ensures c.in-Is.is (lit≤ tt)
 
 pub returns-in-Is : goal.returns-in-Is
 returns-in-Is c = added _ _ _ _ c.octal.ensures c.in-Is.is (lit≤ tt)
-
-pub returns-in-None : goal.returns-in-None
-returns-in-None c = rw (sym c.octal.ensures ∙ c.in-None.is)

@@ -1,7 +1,6 @@
 -- The byte, and nothing after it.
 use mathlib.Core.Path.{refl}
 use native.Mathlib.Omega.{arith}
-use borrow.Author.Rules.{rules}
 use Rattle.notation.proofs.Steps.{found, missing, limited}
 use Rattle.notation.proofs.named.byte.Goals as goal
 

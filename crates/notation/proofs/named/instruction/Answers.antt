@@ -1,7 +1,6 @@
 -- The VA, and nothing after it.
 use mathlib.Core.Path.{refl}
 use native.Mathlib.Omega.{arith}
-use borrow.Author.Rules.{rules}
 use Rattle.notation.proofs.Steps.{found, missing, limited}
 use Rattle.notation.proofs.named.instruction.Goals as goal
 

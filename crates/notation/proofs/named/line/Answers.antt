@@ -1,7 +1,6 @@
 -- Each name by its place.
 use native.Mathlib.Omega.{arith}
 use borrow.Author.Tests.{ne_eqb}
-use borrow.Author.Rules.{rules}
 use Rattle.notation.specs.Lines.{named_line}
 use Rattle.notation.proofs.named.line.Goals as goal
 

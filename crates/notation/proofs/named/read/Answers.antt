@@ -1,5 +1,4 @@
 -- The address, and nothing after it.
-use borrow.Author.Rules.{rules}
 use Rattle.notation.proofs.Steps.{found, missing}
 use Rattle.notation.proofs.named.read.Goals as goal
 

@@ -1,7 +1,6 @@
 -- The five fields one after the other, and nothing after them.
 use mathlib.Core.Path.{refl}
 use native.Mathlib.Omega.{arith}
-use borrow.Author.Rules.{rules}
 use Rattle.notation.specs.Lines.{reference_line}
 use Rattle.notation.proofs.Steps.{found, missing, limited}
 use Rattle.notation.proofs.named.reference.Goals as goal

@@ -1,7 +1,6 @@
 -- The address and the value, and nothing after them.
 use mathlib.Core.Path.{refl}
 use native.Mathlib.Omega.{arith}
-use borrow.Author.Rules.{rules}
 use Rattle.notation.specs.Lines.{write_line}
 use Rattle.notation.proofs.Steps.{found, missing, limited}
 use Rattle.notation.proofs.named.write.Goals as goal

@@ -1,5 +1,4 @@
 -- What follows the run is the part from its end on.
-use borrow.Author.Rules.{rules}
 use Rattle.notation.proofs.Parts.{from_on}
 use Rattle.notation.proofs.Runs.{run-dropped}
 use Rattle.notation.proofs.words.after.Goals as goal

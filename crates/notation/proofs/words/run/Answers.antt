@@ -1,11 +1,6 @@
 -- The invariant: the whole run is what was passed and the run at what is left.
-use mathlib.Core.Path.{◌≡◌, sym, ◌∙◌}
-use Prim.Native.Nat.{◌+◌, ◌≤◌, ◌-◌}
+use mathlib.Core.Path.{sym, ◌∙◌}
 use native.Mathlib.Omega.{arith}
-use lib.ListN.{length, drop}
-use borrow.Author.Rules.{rules}
-use Rattle.notation.specs.Words.{before}
-use Rattle.notation.specs.Classes.{test_of}
 use Rattle.notation.proofs.Runs.{passed, stopped, ended}
 use Rattle.notation.proofs.words.run.Goals as goal
 

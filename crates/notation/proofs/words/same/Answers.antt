@@ -1,18 +1,10 @@
 -- The invariant: the words are the same where what is left of them is.
-use mathlib.Core.Path.{◌≡◌, refl}
-use Prim.Native.Nat.{◌≤◌, ◌-◌}
 use native.Mathlib.Omega.{arith}
-use lib.ListN.{length, drop}
-use borrow.Author.Rules.{rules}
-use Rattle.notation.specs.Words.{same}
 use Rattle.notation.proofs.Spelling.{unequal, agree, differ, compared}
 use Rattle.notation.proofs.words.same.Goals as goal
 
 pub returns-then-a-b : goal.returns-then-a-b
 returns-then-a-b c = unequal _ _ c.if-a-b.true
-
-pub loop-i-init : goal.loop-i-init
-loop-i-init c = (search rules, refl)
 
 pub returns-then-a-i : goal.returns-then-a-i
 returns-then-a-i c = differ _ _ _ c.loop-i.invariant.1 (omega arith) (omega arith) c.if-a-i.true
