@@ -9,7 +9,7 @@ ghost use Rattle.reader.specs.Reading.{place_after as place_after_of};
 
 use records::{Cursor, Found};
 
-#[derive(Drop)]
+#[derive(Clone, Copy)]
 pub struct Reader<'a> {
     pub recording: &'a [u8],
     pub at: usize,
@@ -17,7 +17,7 @@ pub struct Reader<'a> {
 
 // What stands at a place of a recording.
 fn found_at(recording: &[u8], at: usize) -> Found
-    ensures { result ≡ record_at recording.now at }
+    ensures stands { result ≡ record_at recording.now at }
 {
     Cursor { at }.read(recording)
 }

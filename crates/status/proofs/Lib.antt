@@ -1,2 +1,1 @@
 pub mod AsInTheStore
-pub mod InPlace

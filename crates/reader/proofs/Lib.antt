@@ -1,3 +1,0 @@
-pub mod Held
-pub mod Lent
-pub mod Made
