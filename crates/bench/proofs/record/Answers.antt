@@ -10,9 +10,7 @@ use Rattle.writer.specs.Writing.{Said, said, unwritten, write}
 use Rattle.writer.proofs.Judged.{used_tells}
 use Rattle.writer.specs.declared.Wrote.{Wrote}
 use Rattle.writer.specs.declared.Wrote.TheVariants.{Upto}
-use Rattle.rules.proofs.Numbers.{at_most_14}
 use Rattle.writer.proofs.Lengths.{at_most-seven}
-use borrow.Author.Rules.{rules}
 use Rattle.bench.proofs.record.Goals as goal
 
 -- how many bytes were appended
@@ -38,14 +36,3 @@ pub overflow_add-result : goal.overflow_add-result
 overflow_add-result c =
     let seven = (appended _ _ _ _ _ _ c.write.ensures c.in-Upto.is).1 in
     omega (arith, seven)
-
-pub overflow_add-result-in-Refused : goal.overflow_add-result-in-Refused
-overflow_add-result-in-Refused c = let n = c.number.ensures in omega (arith, n, at_most_14 c.in-Refused.refusal)
-
-pub returns-in-Upto : goal.returns-in-Upto
-returns-in-Upto c =
-    rw (← c.write.ensures, c.in-Upto.is)
-
-pub returns-in-Refused : goal.returns-in-Refused
-returns-in-Refused c =
-    rw (c.number.ensures, ← c.write.ensures, c.in-Refused.is)

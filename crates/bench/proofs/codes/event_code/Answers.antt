@@ -3,16 +3,9 @@ use mathlib.Core.Path.{◌≡◌}
 use native.Mathlib.Omega.{arith}
 use mir.Syntax.{w32}
 use mir.Val.{to_z, of_z}
-use Rattle.writer.proofs.Fields.{change_fits}
 use Rattle.bench.specs.Codes.{event_code}
 use borrow.Author.Rules.{rules}
 use Rattle.bench.proofs.codes.event_code.Goals as goal
-
-pub change_fields-requires : goal.change_fields-requires
-change_fields-requires c =
-    let amount = c.in-Change.amount in
-    let held : to_z w32 (of_z w32 amount) ≡ amount = search rules in
-    rw held (change_fits c.in-Change.register amount (rw c.in-Change.is at c.requires)).1
 
 pub returns-in-Refer : goal.returns-in-Refer
 unfolding event_code
