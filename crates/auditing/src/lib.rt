@@ -63,6 +63,7 @@ fn keeps_rights(old: u16, new: u16) -> bool
 }
 
 // A PAR write, given the page's PDR.
+#[tactic(auto, unfolding(widening::specs::Widens::widens_par))]
 fn judge_par(pdr: u16, old: u16, new: u16) -> Verdict
     ensures { result ≡ par_verdict pdr old new }
 {

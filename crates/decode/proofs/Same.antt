@@ -65,3 +65,6 @@ by_case a false false e f =
 
 pub same : (a : ℕ) → by_part a ≡ register_at a
 same a = by_case a (ltb a 0o772200) (ltb a 0o777700) refl refl
+
+pub register_by_part : (a : ℕ) → register_at a ≡ by_part a
+register_by_part a = sym (same a)

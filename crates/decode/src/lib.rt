@@ -42,6 +42,7 @@ fn status_at(address: u32) -> usize
 }
 
 // The place of the register at an address, 100 where there is none. A mode has 16 PDRs, and then 16 PARs.
+#[tactic(auto, using(crate::proofs::Same::register_by_part), unfolding(crate::specs::Parts::by_part))]
 pub fn register_at(address: u32) -> usize
     ensures { result ≡ register_at address }
 {

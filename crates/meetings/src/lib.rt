@@ -29,6 +29,7 @@ pub enum Parting {
 const NONE: u8 = 48;
 
 // A page is seen to reach a block: it becomes its owner, or meets one of its own mode, or one of another.
+#[tactic(auto, unfolding(crate::specs::Pass::sighted))]
 fn sight(owners: &mut [u8], lowest: Meeting, page: u8, block: u16) -> Meeting
     requires { (length owners.old ≡ 4096) × (block < 4096) }
     ensures { (owners.new, result) ≡ sighted page block (owners.old, lowest) }

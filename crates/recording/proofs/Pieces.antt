@@ -10,7 +10,7 @@ use Rattle.rules.specs.declared.Refusal.TheVariants.{Store}
 use Rattle.records.specs.Recordings.{refusal}
 use Rattle.lines.specs.Lines.{line_of}
 use Rattle.pieces.specs.Begun.{to_tell, landed}
-use Rattle.pieces.specs.Windows.{front, window_of}
+use Rattle.pieces.specs.Windows.{window_of}
 use Rattle.pieces.specs.declared.Begun.{Begun}
 use Rattle.pieces.specs.declared.Reached.{Reached as Landing}
 use Rattle.pieces.specs.declared.Window.{Window}

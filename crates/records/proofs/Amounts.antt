@@ -1,6 +1,6 @@
 -- A byte as a signed number: below 128 itself, from 128 on 256 less.
 use mathlib.Core.Path.{◌≡◌, ap}
-use Prim.Native.Nat.{ℕ, ◌-◌, ◌<◌, ◌≤◌}
+use Prim.Native.Nat.{ℕ, ◌<◌, ◌≤◌}
 use native.Mathlib.Omega.{arith}
 use lib.IntN.{pos, negsuc, ◌-ℤ◌}
 use mir.Syntax.{w32}

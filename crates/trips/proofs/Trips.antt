@@ -16,7 +16,7 @@ use Rattle.records.specs.declared.Found.TheVariants.{Whole, Refused, End}
 use Rattle.records.proofs.Laws.{at-end, advances, end-tells}
 use Rattle.records.proofs.Recordings.{every_record}
 use Rattle.writer.specs.Bytes.{record_of}
-use Rattle.writer.specs.Writing.{Said, Used, X, unwritten, answer, write}
+use Rattle.writer.specs.Writing.{Said, Used, X, unwritten, write}
 use Rattle.trips.specs.Trips.{onwards, write_all, events, whole, AllHeld, Bytes, ReadBack, WrittenBack}
 use Rattle.writer.proofs.Judged.{fitting, accepted, not_large}
 use Rattle.trips.proofs.Reading.{Fits, found}

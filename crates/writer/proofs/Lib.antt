@@ -1,5 +1,4 @@
 pub mod Fields
 pub mod Judged
 pub mod Lengths
-pub mod Amounts
 pub mod Said

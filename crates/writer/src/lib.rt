@@ -21,6 +21,7 @@ pub enum Wrote {
 
 // Appends an event's record after the bytes used so far. A field too large for its bytes is refused first, by its number in 01;
 // then by 14 a record that does not fit in what is left. An event that the unit would refuse is written.
+#[tactic(auto, using(crate::proofs::Judged::refusing))]
 pub fn write(buffer: &mut [u8], used: usize, event: Event) -> Wrote
     ensures { (said result, buffer.new) ≡ write_of buffer.old used event }
 {

@@ -1,6 +1,5 @@
 -- `code` meets its contract: in each arm the answer is known, and its values are small.
 use native.Mathlib.Omega.{arith}
-use borrow.Author.Rules.{rules}
 use Rattle.board.proofs.code.Goals as goal
 
 pub overflow_add-result-in-Granted-2 : goal.overflow_add-result-in-Granted-2

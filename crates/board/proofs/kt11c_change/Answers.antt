@@ -1,5 +1,4 @@
 -- `kt11c_change` meets its contract: the unit's own promise, its answer coded.
-use borrow.Author.Rules.{rules}
 use mir.Facts.{to_z-of_z}
 use Rattle.rules.specs.declared.Event.TheVariants.{Change}
 use Rattle.board.proofs.Small.{small}

@@ -1,5 +1,4 @@
 -- `kt11c_instruction` meets its contract: the unit's own promise, its answer coded.
-use borrow.Author.Rules.{rules}
 use Rattle.rules.specs.declared.Event.TheVariants.{Instruction}
 use Rattle.board.proofs.Small.{small}
 use Rattle.board.proofs.kt11c_instruction.Goals as goal

@@ -1,5 +1,4 @@
 -- `kt11c_write` meets its contract: the unit's own promise, its answer coded.
-use borrow.Author.Rules.{rules}
 use Rattle.rules.specs.declared.Event.TheVariants.{Write}
 use Rattle.board.proofs.Small.{small}
 use Rattle.board.proofs.kt11c_write.Goals as goal

@@ -1,5 +1,4 @@
 -- `in_registers` meets its contract: it is the definition, by what `register_at` ensures.
-use borrow.Author.Rules.{rules}
 use Rattle.decode.proofs.in_registers.Goals as goal
 
 pub returns : goal.returns

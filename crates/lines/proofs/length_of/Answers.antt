@@ -1,7 +1,6 @@
 -- The length of each kind of line computes.
 use Rattle.lines.specs.Lines.{line_of}
 use Rattle.lines.proofs.Lengths.{granted-longest}
-use borrow.Author.Rules.{rules}
 use Rattle.lines.proofs.length_of.Goals as goal
 
 pub returns-in-Granted : goal.returns-in-Granted

@@ -2,7 +2,6 @@
 use Rattle.lines.proofs.Output.{fits, unfit}
 use native.Mathlib.Omega.{arith}
 use mathlib.Core.Path.{sym}
-use borrow.Author.Rules.{rules}
 use Rattle.lines.proofs.put.Goals as goal
 
 pub returns-then-out-at : goal.returns-then-out-at

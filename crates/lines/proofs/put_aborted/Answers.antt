@@ -1,8 +1,5 @@
 -- The stores are the line's characters, one after the other.
 use Rattle.lines.specs.Lines.{line_of}
-use lib.ListN.{length-set}
-use native.Mathlib.Omega.{arith}
-use borrow.Author.Rules.{rules}
 use Rattle.rules.proofs.Places.{place}
 use Rattle.lines.proofs.put_aborted.Goals as goal
 

@@ -1,8 +1,5 @@
 -- The stores are the two digits, one after the other.
-use lib.ListN.{length-set}
 use native.Mathlib.Numerals.{add-one}
-use native.Mathlib.Omega.{arith}
-use borrow.Author.Rules.{rules}
 use Rattle.lines.proofs.put_decimal.Goals as goal
 
 pub returns : goal.returns

@@ -1,9 +1,6 @@
 -- The stores are the line's characters, one after the other.
 use Rattle.lines.specs.Lines.{line_of}
 use native.Mathlib.Numerals.{add-one}
-use native.Mathlib.Omega.{arith}
-use lib.ListN.{length-set}
-use borrow.Author.Rules.{rules}
 use Rattle.lines.proofs.put_done.Goals as goal
 
 pub returns : goal.returns

@@ -1,7 +1,6 @@
 -- Each kind of answer writes its own line.
 use Rattle.lines.specs.Lines.{line_of}
 use Rattle.lines.proofs.Lengths.{granted-longest}
-use borrow.Author.Rules.{rules}
 use Rattle.lines.proofs.put_fitting.Goals as goal
 
 pub put_granted-requires : goal.put_granted-requires

@@ -4,7 +4,6 @@ use Rattle.lines.proofs.Served.{two_characters}
 use Rattle.lines.specs.Lines.{line_of}
 use native.Mathlib.Omega.{arith}
 use lib.ListN.{length-set}
-use borrow.Author.Rules.{rules}
 use Rattle.lines.proofs.put_granted.Goals as goal
 
 pub put_octal-requires : goal.put_octal-requires

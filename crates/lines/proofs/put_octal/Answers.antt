@@ -1,7 +1,4 @@
 -- The stores are the six digits, one after the other.
-use lib.ListN.{length-set}
-use native.Mathlib.Omega.{arith}
-use borrow.Author.Rules.{rules}
 use Rattle.rules.proofs.Places.{place}
 use Rattle.lines.proofs.put_octal.Goals as goal
 

@@ -3,7 +3,6 @@ use Rattle.rules.proofs.Places.{place}
 use Rattle.lines.specs.Lines.{line_of}
 use native.Mathlib.Omega.{arith}
 use lib.ListN.{length-set}
-use borrow.Author.Rules.{rules}
 use Rattle.lines.proofs.put_refused.Goals as goal
 
 pub put_decimal-requires : goal.put_decimal-requires

@@ -1,8 +1,5 @@
 -- The digits of a place, or the two dashes, one after the other.
-use lib.ListN.{length-set}
 use native.Mathlib.Numerals.{add-one}
-use native.Mathlib.Omega.{arith}
-use borrow.Author.Rules.{rules}
 use Rattle.lines.proofs.put_served.Goals as goal
 
 pub returns-in-Page : goal.returns-in-Page

@@ -3,7 +3,6 @@ use Rattle.rules.proofs.Places.{place}
 use Rattle.lines.specs.Lines.{line_of}
 use native.Mathlib.Omega.{arith}
 use lib.ListN.{length-set}
-use borrow.Author.Rules.{rules}
 use Rattle.lines.proofs.put_word.Goals as goal
 
 pub put_octal-requires : goal.put_octal-requires

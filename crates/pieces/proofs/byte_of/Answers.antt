@@ -1,11 +1,10 @@
 -- The byte stands in the front, or in the back past the front's length.
 use mathlib.Core.Path.{sym, ap, ◌∙◌}
 use mathlib.Core.List.{◌++◌}
-use Prim.Native.Nat.{ℕ, ◌+◌, ◌-◌}
+use Prim.Native.Nat.{ℕ, ◌-◌}
 use native.Mathlib.Omega.{arith}
 use lib.ListN.{length, get_or, length-append, get_or-append}
 use lib.Seq.{get_or-append-add}
-use borrow.Author.Rules.{rules}
 use Rattle.pieces.proofs.byte_of.Goals as goal
 
 pub bounds-back-at : goal.bounds-back-at

@@ -1,5 +1,4 @@
 -- Nothing is held, and the place moves on.
-use borrow.Author.Rules.{rules}
 use Rattle.pieces.proofs.closed.Goals as goal
 
 pub returns : goal.returns

@@ -1,5 +1,4 @@
 -- By what was found: a whole record stays, a refusal is ended by `end_refused`, and the end gives 13 where bytes lie beyond.
-use borrow.Author.Rules.{rules}
 use Rattle.pieces.proofs.end.Goals as goal
 
 pub returns-then-beyond : goal.returns-then-beyond

@@ -1,7 +1,6 @@
 -- By the tests in their order: another number than 12, bytes beyond the limit, the last bytes.
 use mathlib.Core.Path.{◌∙◌}
 use native.Mathlib.Omega.{arith}
-use borrow.Author.Rules.{rules}
 use borrow.Author.Tests.{eq-eqb, ne_eqb}
 use Rattle.rules.specs.Paper.{number}
 use Rattle.pieces.proofs.end_refused.Goals as goal

@@ -1,5 +1,4 @@
 -- Nothing is held.
-use borrow.Author.Rules.{rules}
 use Rattle.pieces.proofs.fresh.Goals as goal
 
 pub returns : goal.returns

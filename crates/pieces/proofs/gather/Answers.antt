@@ -5,7 +5,6 @@ use Prim.Native.Nat.{ℕ, ◌+◌, ◌-◌, ◌<◌, ◌≤◌, min}
 use native.Mathlib.Omega.{arith}
 use lib.ListN.{length, drop, get_or, set, length-append, length-drop}
 use lib.Seq.{get_or-drop}
-use borrow.Author.Rules.{rules}
 use Rattle.pieces.specs.Held.{longest_record, held_of}
 use Rattle.pieces.specs.declared.Held.{Held}
 use Rattle.pieces.proofs.Gathered.{put, put-none, put-more, put_all}

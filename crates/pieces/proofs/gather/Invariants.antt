@@ -1,14 +1,9 @@
 -- The loop puts the bytes from the place on over seven zeros, as many as there are.
 use mathlib.Core.Path.{◌≡◌}
-use mathlib.Core.List.{List, ◌++◌}
-use Prim.Native.Nat.{ℕ, ◌+◌, ◌-◌, ◌<◌, ◌≤◌, min}
-use native.Mathlib.Omega.{arith}
-use lib.ListN.{length, drop, get_or, set, length-append, length-drop}
-use lib.Seq.{get_or-drop}
-use borrow.Author.Rules.{rules}
-use Rattle.pieces.specs.Held.{longest_record, held_of}
-use Rattle.pieces.specs.declared.Held.{Held}
-use Rattle.pieces.proofs.Gathered.{put, put-none, put-more, put_all}
+use mathlib.Core.List.{◌++◌}
+use Prim.Native.Nat.{◌-◌, ◌≤◌}
+use lib.ListN.{drop}
+use Rattle.pieces.proofs.Gathered.{put}
 use Rattle.pieces.proofs.gather.Given as goal
 
 abbrev pub invariant-loop-i : goal.invariant-loop-i

@@ -1,7 +1,6 @@
 -- The lesser of the count and the array's length is how many bytes are held.
 use native.Mathlib.Omega.{arith}
 use lib.ListN.{length-take}
-use borrow.Author.Rules.{rules}
 use Rattle.pieces.proofs.held_count.Goals as goal
 
 pub returns : goal.returns

@@ -5,7 +5,6 @@ use Prim.Native.Nat.{ℕ, min}
 use native.Mathlib.Omega.{arith}
 use lib.ListN.{length, take, drop}
 use lib.Seq.{length-take-le}
-use borrow.Author.Rules.{rules}
 use Rattle.pieces.specs.Held.{held_of}
 use Rattle.pieces.specs.declared.Held.{Held}
 use Rattle.pieces.proofs.Lists.{take_min}

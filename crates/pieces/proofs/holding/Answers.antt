@@ -1,5 +1,4 @@
 -- What is left of the bytes is held, and the place moves on.
-use borrow.Author.Rules.{rules}
 use Rattle.pieces.proofs.holding.Goals as goal
 
 pub returns : goal.returns

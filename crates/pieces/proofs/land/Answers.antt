@@ -1,5 +1,4 @@
 -- By how the records were gone through, as each way's own promise says.
-use borrow.Author.Rules.{rules}
 use Rattle.pieces.specs.Begun.{landed}
 use Rattle.pieces.proofs.land.Goals as goal
 

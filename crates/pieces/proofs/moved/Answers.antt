@@ -1,7 +1,6 @@
 -- Only a whole record has a place, and it is moved on.
 use native.Mathlib.Omega.{arith}
 use mathlib.Core.Path.{ap}
-use borrow.Author.Rules.{rules}
 use Rattle.pieces.specs.Moved.{end_of}
 use Rattle.pieces.proofs.moved.Goals as goal
 

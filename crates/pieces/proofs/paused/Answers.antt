@@ -1,6 +1,5 @@
 -- What is left of the bytes held stays held, and the place moves on.
 use mathlib.Core.List.{append-nil}
-use borrow.Author.Rules.{rules}
 use Rattle.pieces.specs.Held.{bytes_of}
 use Rattle.pieces.proofs.paused.Goals as goal
 

@@ -1,5 +1,4 @@
 -- The record across both parts, ended.
-use borrow.Author.Rules.{rules}
 use Rattle.pieces.proofs.read.Goals as goal
 
 pub returns : goal.returns

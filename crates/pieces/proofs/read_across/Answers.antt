@@ -1,11 +1,10 @@
 -- The record's bytes are among the seven gathered, and it is read from those.
 use mathlib.Core.Path.{◌≡◌, sym, ap, ◌∙◌}
 use mathlib.Core.List.{List, ◌++◌}
-use Prim.Native.Nat.{ℕ, ◌+◌}
+use Prim.Native.Nat.{ℕ}
 use native.Mathlib.Omega.{arith}
 use lib.ListN.{take, drop, length-take}
 use lib.Seq.{length-take-le}
-use borrow.Author.Rules.{rules}
 use Rattle.records.specs.Records.{record_at}
 use Rattle.pieces.specs.Moved.{moved}
 use Rattle.pieces.specs.Held.{longest_record, bytes_of}

@@ -1,7 +1,6 @@
 -- A record in the back stands past the front.
 use mathlib.Core.Path.{sym, ap, ◌∙◌}
 use native.Mathlib.Omega.{arith}
-use borrow.Author.Rules.{rules}
 use Rattle.pieces.specs.Moved.{moved}
 use Rattle.pieces.proofs.Across.{behind, end-within}
 use Rattle.pieces.proofs.read_joined.Goals as goal

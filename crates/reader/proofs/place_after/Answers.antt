@@ -1,5 +1,4 @@
 -- `place_after` meets its contract: each arm is given which `Found` stands, by `found_at` it is `record_at`'s, and on it the definition computes.
-use borrow.Author.Rules.{rules}
 use mathlib.Core.Path.{sym, ◌∙◌}
 use Rattle.reader.specs.Reading.{place_after}
 use Rattle.reader.proofs.place_after.Goals as goal

@@ -1,5 +1,4 @@
 -- Over, or the records of the piece and where they leave it.
-use borrow.Author.Rules.{rules}
 use Rattle.recording.proofs.Pieces.{when_over, when_going}
 use Rattle.recording.proofs.feed.Goals as goal
 

@@ -1,5 +1,4 @@
 -- Given back where nothing was written.
-use borrow.Author.Rules.{rules}
 use borrow.Author.Tests.{eq-eqb, ne_eqb}
 use Rattle.recording.proofs.give_back.Goals as goal
 

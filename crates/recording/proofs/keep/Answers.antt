@@ -1,5 +1,4 @@
 -- Kept where there is less room than for the longest line.
-use borrow.Author.Rules.{rules}
 use borrow.Author.Tests.{lt-ltb, le-ltb}
 use Rattle.lines.specs.Lines.{longest}
 use Rattle.recording.proofs.keep.Goals as goal

@@ -1,7 +1,6 @@
 -- 1 is tested first; else the bytes lent are those inside the limit.
 use mathlib.Core.Path.{sym, ◌∙◌}
 use lib.Seq.{length-take-le}
-use borrow.Author.Rules.{rules}
 use Rattle.pieces.proofs.Within.{fronts, backs}
 use Rattle.recording.proofs.Pieces.{when_store, when_records}
 use Rattle.recording.proofs.replay_piece.Goals as goal

@@ -1,13 +1,11 @@
 -- The loop keeps to the stretch that the feed will show: `Reached` holds at each record, and the place moves on.
-use mathlib.Core.Path.{◌≡◌, refl, sym, ◌∙◌}
+use mathlib.Core.Path.{refl, sym, ◌∙◌}
 use mathlib.Core.List.{◌++◌}
-use Prim.Native.Nat.{◌-◌}
 use native.Mathlib.Omega.{arith}
-use lib.ListN.{length}
 use borrow.Author.Rules.{rules}
 use Rattle.pieces.proofs.Seen.{seen-advances}
 use Rattle.recording.specs.Parts.{ahead}
-use Rattle.recording.proofs.Reached.{Reached, begin}
+use Rattle.recording.proofs.Reached.{begin}
 use Rattle.recording.proofs.Ahead.{ends, refused, takes, leaves}
 use Rattle.recording.proofs.replay_records.Goals as goal
 

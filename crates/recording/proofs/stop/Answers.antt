@@ -6,7 +6,6 @@ use Prim.Native.Nat.{ℕ, ◌+◌}
 use native.Mathlib.Nat.{add-zero}
 use native.Mathlib.Omega.{arith}
 use lib.Dec.{eqb}
-use borrow.Author.Rules.{rules}
 use borrow.Author.Tests.{eq-eqb, ne_eqb}
 use Rattle.rules.specs.Paper.{X, number}
 use Rattle.lines.specs.Lines.{line_of}

@@ -6,7 +6,6 @@ use Prim.Native.Nat.{ℕ, ◌-◌, ◌≤◌}
 use native.Mathlib.Omega.{arith}
 use lib.Dec.{leb, ltb, eqb}
 use lib.ListN.{length}
-use borrow.Author.Rules.{rules}
 use borrow.Author.Tests.{leb-true, leb-false, ne_eqb, lt-ltb}
 use Rattle.rules.specs.Paper.{Paper}
 use Rattle.rules.specs.Step.{step}

@@ -4,7 +4,6 @@ use native.Mathlib.Omega.{arith}
 use mir.ValLaws.{to_z-of_z}
 use mir.Syntax.{w32}
 use mathlib.Core.Path.{◌∙◌}
-use borrow.Author.Rules.{rules}
 use Rattle.records.proofs.amount_of.Goals as goal
 
 pub overflow_sub-result : goal.overflow_sub-result

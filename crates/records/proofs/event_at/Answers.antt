@@ -2,7 +2,6 @@
 use native.Mathlib.Omega.{arith}
 use Rattle.records.specs.Records.{event_of}
 use borrow.Author.Tests.{ne_eqb}
-use borrow.Author.Rules.{rules}
 use Rattle.records.proofs.event_at.Goals as goal
 
 pub reference_at-requires : goal.reference_at-requires

@@ -1,5 +1,4 @@
 -- The five fields are those of `reference_at`, each by what its reading ensures.
-use borrow.Author.Rules.{rules}
 use Rattle.records.proofs.reference_at.Goals as goal
 
 pub returns : goal.returns

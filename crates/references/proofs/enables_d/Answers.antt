@@ -1,5 +1,4 @@
 -- `enables_d` meets its contract: the shift picks SR3's bit for the mode.
-use borrow.Author.Rules.{rules}
 use Rattle.references.proofs.Modes.{enables}
 use Rattle.references.proofs.enables_d.Goals as goal
 

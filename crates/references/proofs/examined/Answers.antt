@@ -1,5 +1,4 @@
 -- `examined` meets its contract: the ruling by value, stored back, is the ruling over the store.
-use borrow.Author.Rules.{rules}
 use Rattle.rules.specs.References.{examined}
 use Rattle.references.proofs.Pages.{by_ruling}
 use Rattle.references.proofs.examined.Goals as goal

@@ -1,6 +1,5 @@
 -- `flat` meets its contract: each branch is a case of the definition.
 use borrow.Author.Tests.{lt-ltb, le-ltb}
-use borrow.Author.Rules.{rules}
 use Rattle.references.proofs.flat.Goals as goal
 
 pub returns-then-va-lt57344 : goal.returns-then-va-lt57344

@@ -1,5 +1,4 @@
 -- `illegal_mode` meets its contract: it is the definition, by what its callees ensure.
-use borrow.Author.Rules.{rules}
 use Rattle.rules.specs.References.{illegal_mode}
 use Rattle.references.proofs.illegal_mode.Goals as goal
 

@@ -1,6 +1,5 @@
 -- `reference` meets its contract: the refusals are tested in the order of their numbers.
 use borrow.Author.Tests.{lt-ltb, le-ltb, eq-eqb, ne_eqb}
-use borrow.Author.Rules.{rules}
 use Rattle.references.proofs.Refusing.{refer-step}
 use Rattle.references.proofs.reference.Goals as goal
 

@@ -1,6 +1,5 @@
 -- `referred` meets its contract: the relocation and mode tests pick the rule.
 use borrow.Author.Tests.{eq-eqb, ne_eqb}
-use borrow.Author.Rules.{rules}
 use Rattle.rules.specs.References.{referred}
 use Rattle.references.proofs.referred.Goals as goal
 

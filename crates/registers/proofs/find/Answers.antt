@@ -1,6 +1,5 @@
 -- `find` meets its contract: its tests are those of the definition.
 use borrow.Author.Tests.{lt-ltb, le-ltb, eq-eqb, ne_eqb}
-use borrow.Author.Rules.{rules}
 use Rattle.registers.specs.Found.{found_of}
 use Rattle.registers.proofs.find.Goals as goal
 

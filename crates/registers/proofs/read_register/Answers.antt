@@ -1,7 +1,6 @@
 -- `read_register` meets its contract: what `find` found picks the outcome, and a place found lies in the store.
 use mathlib.Core.Path.{sym, ◌∙◌}
 use native.Mathlib.Omega.{arith}
-use borrow.Author.Rules.{rules}
 use Rattle.registers.proofs.Seeking.{read_step, found-place}
 use Rattle.registers.proofs.read_register.Goals as goal
 

@@ -1,7 +1,6 @@
 -- `write_page` meets its contract: a PAR write and a PDR write go one way.
 use native.Mathlib.Omega.{arith}
 use lib.ListN.{length-set}
-use borrow.Author.Rules.{rules}
 use Rattle.registers.proofs.OnePath.{one_path}
 use Rattle.registers.proofs.write_page.Goals as goal
 

@@ -1,6 +1,5 @@
 -- `write_register` meets its contract: what `find` found picks the outcome, and a place found lies in the store.
 use mathlib.Core.Path.{sym, ◌∙◌}
-use borrow.Author.Rules.{rules}
 use Rattle.registers.proofs.Seeking.{write_step, found-place}
 use Rattle.registers.proofs.write_register.Goals as goal
 

@@ -1,6 +1,5 @@
 -- `write_status` meets its contract: the two tests pick the case.
 use borrow.Author.Tests.{le-ltb, ne_eqb}
-use borrow.Author.Rules.{rules}
 use native.Mathlib.Omega.{arith}
 use Rattle.rules.specs.Registers.{written_at}
 use Rattle.registers.proofs.write_status.Goals as goal

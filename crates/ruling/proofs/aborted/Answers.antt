@@ -1,5 +1,4 @@
 -- `aborted` meets its contract: it is the definition, by what its callees ensure.
-use borrow.Author.Rules.{rules}
 use Rattle.ruling.proofs.aborted.Goals as goal
 
 pub returns : goal.returns

@@ -1,5 +1,4 @@
 -- `bit` meets its contract: a bool's byte is its number.
-use borrow.Author.Rules.{rules}
 use Rattle.ruling.proofs.Flags.{byte-bit}
 use Rattle.ruling.proofs.bit.Goals as goal
 

@@ -1,5 +1,4 @@
 -- `granted` meets its contract: it is the definition, by what its callees ensure.
-use borrow.Author.Rules.{rules}
 use Rattle.ruling.proofs.granted.Goals as goal
 
 pub returns : goal.returns

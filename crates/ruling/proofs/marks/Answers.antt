@@ -1,6 +1,5 @@
 -- `marks` meets its contract: the register test picks the definition's case, and `bit` gives the numbers.
 use mathlib.Core.Path.{sym, ◌∙◌}
-use borrow.Author.Rules.{rules}
 use Rattle.ruling.proofs.marks.Goals as goal
 
 pub returns-then-in_registers : goal.returns-then-in_registers

@@ -2,7 +2,6 @@
 use mathlib.Core.Path.{refl}
 use native.Mathlib.Omega.{arith}
 use Prim.Native.Nat.{◌%◌}
-use borrow.Author.Rules.{rules}
 use Rattle.rules.specs.Keys.{right_of}
 use Rattle.rules.proofs.Values.{entry}
 use Rattle.ruling.proofs.right_of.Goals as goal

@@ -1,7 +1,6 @@
 -- `rule` meets its contract: the flags read from the table are rule 4's, and their test picks the definition's case.
 use Prim.Native.Nat.{ℕ, ◌%◌, ◌<◌}
 use native.Mathlib.Omega.{arith}
-use borrow.Author.Rules.{rules}
 use Rattle.ruling.specs.Rulings.{ruling_of}
 use Rattle.ruling.proofs.Keys.{absent, only-read, trapping}
 use Rattle.ruling.proofs.rule.Goals as goal

@@ -1,6 +1,5 @@
 -- `sr0_after` meets its contract: no flag, frozen and not frozen are the definition's cases.
 use mathlib.Core.Path.{sym, ◌∙◌}
-use borrow.Author.Rules.{rules}
 use borrow.Author.Tests.{eq-eqb, ne_eqb}
 use Rattle.ruling.proofs.sr0_after.Goals as goal
 

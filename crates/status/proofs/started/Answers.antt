@@ -1,6 +1,5 @@
 -- `started` meets its contract: the frozen test picks the case.
 use mathlib.Core.Path.{sym, ◌∙◌}
-use borrow.Author.Rules.{rules}
 use Rattle.status.specs.Starts.{started_of}
 use Rattle.status.proofs.started.Goals as goal
 

@@ -1,5 +1,4 @@
 -- Each byte is the low byte of its word.
-use borrow.Author.Rules.{rules}
 use Rattle.tape.specs.Tapes.{begun_by}
 use Rattle.tape.proofs.begun.Goals as goal
 

@@ -2,7 +2,6 @@
 use mathlib.Core.Path.{◌≡◌}
 use mathlib.Core.List.{List}
 use Prim.Native.Nat.{ℕ}
-use borrow.Author.Rules.{rules}
 use Rattle.transcript.specs.declared.Fed.{Fed}
 use Rattle.tape.specs.Tapes.{words_of, counted}
 use Rattle.tape.proofs.kt11c_feed.Goals as goal

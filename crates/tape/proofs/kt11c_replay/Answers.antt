@@ -8,7 +8,6 @@ use lib.Dec.{leb}
 use lib.ListN.{length, take, drop, length-drop, drop_of_length-le}
 use lib.Seq.{take_all, drop-length}
 use borrow.Author.Tests.{leb-true, leb-false}
-use borrow.Author.Rules.{rules}
 use Rattle.pieces.specs.Held.{held_of}
 use Rattle.pieces.specs.Begun.{begun, fresh}
 use Rattle.pieces.specs.declared.Begun.{Begun}

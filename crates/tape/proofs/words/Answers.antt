@@ -1,5 +1,4 @@
 -- Word by word, as the definition lists them.
-use borrow.Author.Rules.{rules}
 use Rattle.tape.specs.Tapes.{words_of}
 use Rattle.tape.proofs.words.Goals as goal
 

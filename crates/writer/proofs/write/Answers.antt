@@ -1,18 +1,13 @@
 -- `write` meets its contract: what is judged is answered, and the record is stored where the answer is a number of bytes used.
 use lib.Seq.{sets-eq}
 use borrow.Author.Tests.{eq-eqb}
-use borrow.Author.Rules.{rules}
 use Rattle.writer.specs.Writing.{write}
-use Rattle.writer.proofs.Judged.{fitting, used_tells, refusing}
+use Rattle.writer.proofs.Judged.{fitting, used_tells}
 use Rattle.writer.proofs.write.Goals as goal
 
 pub put-requires : goal.put-requires
 put-requires c =
     (used_tells _ _ _ (rw c.in-Upto.is at c.judge.ensures)).0
-
-pub returns-in-Refused : goal.returns-in-Refused
-returns-in-Refused c =
-    refusing _ _ _ _ (rw c.in-Refused.is at c.judge.ensures)
 
 pub returns-in-Upto : goal.returns-in-Upto
 unfolding write

@@ -1,7 +1,6 @@
 -- `enter` meets its contract: the tests of SR1's two bytes pick the case.
 use native.Mathlib.Omega.{arith}
 use borrow.Author.Tests.{eq-eqb, ne_eqb}
-use borrow.Author.Rules.{rules}
 use Rattle.events.specs.Changes.{entered}
 use Rattle.events.proofs.changes.enter.Goals as goal
 

@@ -1,6 +1,5 @@
 -- `init` meets its contract: the length test picks the case.
 use borrow.Author.Tests.{eq-eqb, ne_eqb}
-use borrow.Author.Rules.{rules}
 use Rattle.rules.specs.Others.{cleared}
 use Rattle.events.proofs.Steps.{init_step}
 use Rattle.events.proofs.starts.init.Goals as goal

@@ -1,5 +1,4 @@
 -- `instruction_start` meets its contract: it is `start`.
-use borrow.Author.Rules.{rules}
 use Rattle.events.proofs.Steps.{instruction_step}
 use Rattle.events.proofs.starts.instruction_start.Goals as goal
 

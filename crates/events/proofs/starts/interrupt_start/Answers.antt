@@ -1,5 +1,4 @@
 -- `interrupt_start` meets its contract: it is `start`.
-use borrow.Author.Rules.{rules}
 use Rattle.events.proofs.Steps.{interrupt_step}
 use Rattle.events.proofs.starts.interrupt_start.Goals as goal
 

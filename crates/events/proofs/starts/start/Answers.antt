@@ -1,7 +1,6 @@
 -- `start` meets its contract: the length and frozen tests pick the case.
 use mathlib.Core.Path.{sym, ◌∙◌}
 use borrow.Author.Tests.{eq-eqb, ne_eqb}
-use borrow.Author.Rules.{rules}
 use Rattle.rules.specs.Others.{started}
 use Rattle.events.specs.Starts.{start_of}
 use Rattle.events.proofs.starts.start.Goals as goal

@@ -3,7 +3,6 @@ use native.Mathlib.Omega.{arith}
 use Rattle.records.proofs.Laws.{known_zero, known-above, known-within, at-end, at-unknown, at_cut, at-whole}
 use mathlib.Core.Path.{sym}
 use mathlib.Core.Logic.{⊎_elim}
-use borrow.Author.Rules.{rules}
 use Rattle.records.proofs.Cursor.read.Goals as goal
 
 pub returns-then-s-at : goal.returns-then-s-at

@@ -30,9 +30,9 @@ returns-in-Interrupt c = rw c.in-Interrupt.is c.judge_room-in-Interrupt.ensures
 pub returns-in-Change : goal.returns-in-Change
 unfolding unwritten record_of
 returns-in-Change c =
-    let given = c.event-in-Change-1.given in
-    let held : to_z w32 (of_z w32 given.0.1.0) ≡ given.0.1.0 = search rules in
-    rw given.1 (rw held at c.judge_change.ensures)
+    let amount = c.in-Change.amount in
+    let held : to_z w32 (of_z w32 amount) ≡ amount = search rules in
+    rw c.in-Change.is (rw held at c.judge_change.ensures)
 
 pub returns-in-Init : goal.returns-in-Init
 unfolding unwritten record_of

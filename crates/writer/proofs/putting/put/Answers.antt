@@ -37,9 +37,9 @@ put_start-requires-in-Interrupt c =
 pub put_change-requires : goal.put_change-requires
 unfolding record_of
 put_change-requires c =
-    let given = c.event-in-Change-1.given in
-    let accepted = rw given.1 at c.requires in
-    let held : to_z w32 (of_z w32 given.0.1.0) ≡ given.0.1.0 = search rules in
+    let accepted = rw c.in-Change.is at c.requires in
+    let amount = c.in-Change.amount in
+    let held : to_z w32 (of_z w32 amount) ≡ amount = search rules in
     (fitting _ _ (Change _ _) accepted, rw held (amount-fits _ _ _ _ accepted))
 
 pub bounds-b-at : goal.bounds-b-at
@@ -67,9 +67,9 @@ returns-in-Interrupt c = rw c.in-Interrupt.is c.put_start-in-Interrupt.ensures
 
 pub returns-in-Change : goal.returns-in-Change
 returns-in-Change c =
-    let given = c.event-in-Change-1.given in
-    let held : to_z w32 (of_z w32 given.0.1.0) ≡ given.0.1.0 = search rules in
-    rw given.1 (rw held at c.put_change.ensures)
+    let amount = c.in-Change.amount in
+    let held : to_z w32 (of_z w32 amount) ≡ amount = search rules in
+    rw c.in-Change.is (rw held at c.put_change.ensures)
 
 pub returns-in-Init : goal.returns-in-Init
 unfolding record_of

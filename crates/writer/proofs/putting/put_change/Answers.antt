@@ -1,10 +1,7 @@
 -- The stores are the record's bytes, one after the other.
-use lib.ListN.{length-set}
-use native.Mathlib.Omega.{arith}
 use mir.Facts.{to_z-of_z}
 use Rattle.rules.proofs.Places.{place}
 use Rattle.writer.specs.Bytes.{record_of}
-use borrow.Author.Rules.{rules}
 use Rattle.writer.proofs.putting.put_change.Goals as goal
 
 pub complement-requires : goal.complement-requires

@@ -3,7 +3,6 @@ use lib.ListN.{length-set}
 use native.Mathlib.Omega.{arith}
 use Rattle.rules.proofs.Places.{place}
 use Rattle.writer.specs.Bytes.{record_of}
-use borrow.Author.Rules.{rules}
 use Rattle.writer.proofs.putting.put_reference.Goals as goal
 
 pub put_two-requires : goal.put_two-requires

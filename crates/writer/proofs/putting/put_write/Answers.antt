@@ -1,10 +1,8 @@
 -- The stores are the record's bytes, one after the other.
 use lib.ListN.{length-set}
 use native.Mathlib.Omega.{arith}
-use mathlib.Core.Path.{◌∙◌}
 use Rattle.rules.proofs.Places.{place}
 use Rattle.writer.specs.Bytes.{record_of}
-use borrow.Author.Rules.{rules}
 use Rattle.writer.proofs.putting.put_write.Goals as goal
 
 pub put_three-requires : goal.put_three-requires
