@@ -26,8 +26,7 @@ fn record(buffer: &mut [u8], used: usize, event: Event) -> u32
     }
 }
 
-#[unsafe(no_mangle)]
-pub extern "C" fn kt11c_record_reference(
+pub fn kt11c_record_reference(
     buffer: &mut [u8],
     used: usize,
     mode: u32,
@@ -51,61 +50,44 @@ pub extern "C" fn kt11c_record_reference(
     )
 }
 
-#[unsafe(no_mangle)]
-pub extern "C" fn kt11c_record_read(buffer: &mut [u8], used: usize, address: u32) -> u32
+pub fn kt11c_record_read(buffer: &mut [u8], used: usize, address: u32) -> u32
     ensures { (result, buffer.new) ≡ coded used (write buffer.old used (Read address)) }
 {
     record(buffer, used, Event::Read { address })
 }
 
-#[unsafe(no_mangle)]
-pub extern "C" fn kt11c_record_write(
-    buffer: &mut [u8],
-    used: usize,
-    address: u32,
-    value: u16,
-) -> u32
+pub fn kt11c_record_write(buffer: &mut [u8], used: usize, address: u32, value: u16) -> u32
     ensures { (result, buffer.new) ≡ coded used (write buffer.old used (Write address value)) }
 {
     record(buffer, used, Event::Write { address, value })
 }
 
-#[unsafe(no_mangle)]
-pub extern "C" fn kt11c_record_instruction(buffer: &mut [u8], used: usize, va: u16) -> u32
+pub fn kt11c_record_instruction(buffer: &mut [u8], used: usize, va: u16) -> u32
     ensures { (result, buffer.new) ≡ coded used (write buffer.old used (Instruction va)) }
 {
     record(buffer, used, Event::Instruction { va })
 }
 
-#[unsafe(no_mangle)]
-pub extern "C" fn kt11c_record_interrupt(buffer: &mut [u8], used: usize, vector: u16) -> u32
+pub fn kt11c_record_interrupt(buffer: &mut [u8], used: usize, vector: u16) -> u32
     ensures { (result, buffer.new) ≡ coded used (write buffer.old used (Interrupt vector)) }
 {
     record(buffer, used, Event::Interrupt { vector })
 }
 
-#[unsafe(no_mangle)]
-pub extern "C" fn kt11c_record_change(
-    buffer: &mut [u8],
-    used: usize,
-    register: u32,
-    amount: i32,
-) -> u32
+pub fn kt11c_record_change(buffer: &mut [u8], used: usize, register: u32, amount: i32) -> u32
     ensures { (result, buffer.new) ≡ coded used (write buffer.old used (Change register amount)) }
 {
     record(buffer, used, Event::Change { register, amount })
 }
 
-#[unsafe(no_mangle)]
-pub extern "C" fn kt11c_record_init(buffer: &mut [u8], used: usize) -> u32
+pub fn kt11c_record_init(buffer: &mut [u8], used: usize) -> u32
     ensures { (result, buffer.new) ≡ coded used (write buffer.old used Init) }
 {
     record(buffer, used, Event::Init)
 }
 
 // What stands at a place of a recording.
-#[unsafe(no_mangle)]
-pub extern "C" fn kt11c_event_at(recording: &[u8], at: usize) -> u64
+pub fn kt11c_event_at(recording: &[u8], at: usize) -> u64
     ensures { result ≡ found_code (record_at recording.now at) }
 {
     match reader::read(recording, at) {
@@ -116,8 +98,7 @@ pub extern "C" fn kt11c_event_at(recording: &[u8], at: usize) -> u64
 }
 
 // The place past the record at a place; the same place where no whole record stands.
-#[unsafe(no_mangle)]
-pub extern "C" fn kt11c_place_after(recording: &[u8], at: usize) -> usize
+pub fn kt11c_place_after(recording: &[u8], at: usize) -> usize
     ensures { result ≡ place_after recording.now at }
 {
     reader::after(recording, at)

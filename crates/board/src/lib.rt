@@ -49,8 +49,7 @@ fn code(a: Answer) -> u32
     }
 }
 
-#[unsafe(no_mangle)]
-pub extern "C" fn kt11c_reference(
+pub fn kt11c_reference(
     store: &mut [u16],
     mode: u32,
     space: u32,
@@ -72,43 +71,37 @@ pub extern "C" fn kt11c_reference(
     ))
 }
 
-#[unsafe(no_mangle)]
-pub extern "C" fn kt11c_read(store: &[u16], address: u32) -> u32
+pub fn kt11c_read(store: &[u16], address: u32) -> u32
     ensures { (result, store.now) ≡ coded (step store.now (Read address)) }
 {
     code(kt11c::read_register(store, address))
 }
 
-#[unsafe(no_mangle)]
-pub extern "C" fn kt11c_write(store: &mut [u16], address: u32, value: u16) -> u32
+pub fn kt11c_write(store: &mut [u16], address: u32, value: u16) -> u32
     ensures { (result, store.new) ≡ coded (step store.old (Write address value)) }
 {
     code(kt11c::write_register(store, address, value))
 }
 
-#[unsafe(no_mangle)]
-pub extern "C" fn kt11c_instruction(store: &mut [u16], va: u16) -> u32
+pub fn kt11c_instruction(store: &mut [u16], va: u16) -> u32
     ensures { (result, store.new) ≡ coded (step store.old (Instruction va)) }
 {
     code(kt11c::instruction_start(store, va))
 }
 
-#[unsafe(no_mangle)]
-pub extern "C" fn kt11c_interrupt(store: &mut [u16], vector: u16) -> u32
+pub fn kt11c_interrupt(store: &mut [u16], vector: u16) -> u32
     ensures { (result, store.new) ≡ coded (step store.old (Interrupt vector)) }
 {
     code(kt11c::interrupt_start(store, vector))
 }
 
-#[unsafe(no_mangle)]
-pub extern "C" fn kt11c_change(store: &mut [u16], register: u32, amount: i32) -> u32
+pub fn kt11c_change(store: &mut [u16], register: u32, amount: i32) -> u32
     ensures { (result, store.new) ≡ coded (step store.old (Change register amount)) }
 {
     code(kt11c::note_change(store, register, amount))
 }
 
-#[unsafe(no_mangle)]
-pub extern "C" fn kt11c_init(store: &mut [u16]) -> u32
+pub fn kt11c_init(store: &mut [u16]) -> u32
     ensures { (result, store.new) ≡ coded (step store.old Init) }
 {
     code(kt11c::init(store))

@@ -67,8 +67,7 @@ fn words(reached: Reached) -> [u64; 11]
 }
 
 // Feeds a piece: the lines that fit are written, and the state tells how far it came; how many bytes were written.
-#[unsafe(no_mangle)]
-pub extern "C" fn kt11c_feed(
+pub fn kt11c_feed(
     store: &mut [u16],
     state: &mut [u64; 11],
     piece: &[u8],
@@ -91,13 +90,7 @@ fn least(a: usize, b: usize) -> usize
 }
 
 // A whole recording in one call, from the record at a place on, while the next line fits; how many bytes were written.
-#[unsafe(no_mangle)]
-pub extern "C" fn kt11c_replay(
-    store: &mut [u16],
-    recording: &[u8],
-    at: usize,
-    out: &mut [u8],
-) -> usize
+pub fn kt11c_replay(store: &mut [u16], recording: &[u8], at: usize, out: &mut [u8]) -> usize
     ensures { (result, store.new, out.new) ≡ wholly store.old recording.now at out.old }
 {
     let none = pieces::fresh();
