@@ -5,9 +5,9 @@ use std::env;
 use std::path::Path;
 
 fn main() {
-    link("KT11C_LIB", "board");
-    link("KT11C_TAPE", "tape");
-    link("KT11C_BENCH", "bench");
+    link("KT11C_LIB", "board_c");
+    link("KT11C_TAPE", "tape_c");
+    link("KT11C_BENCH", "bench_c");
 }
 
 /// Links the library that a variable names; `tools/hostlib` makes it from a crate.
