@@ -6,11 +6,11 @@ use Rattle.record.proofs.record_lines.Given as goal
 
 abbrev pub invariant-loop-over : goal.invariant-loop-over
 invariant-loop-over g l = record {
-    same : length l.out ≡ length l.fn.out;
-    order : l.at ≤ l.end;
-    within : l.at ≤ length l.text;
-    used : l.used ≤ length l.fn.out;
-  }
+  same : length l.out ≡ length l.fn.out;
+  order : l.at ≤ l.end;
+  within : l.at ≤ length l.text;
+  used : l.used ≤ length l.fn.out;
+}
 
 abbrev pub decreases-loop-over : goal.decreases-loop-over
 decreases-loop-over g l = cond l.over 0 (suc (2 * (length l.text - l.at) + waiting l.used))

@@ -1,22 +1,10 @@
 -- What lies ready is offered to a feed, which brings the end nearer; the text that it wrote lies within its buffer.
-use Rattle.std.proofs.Common.{ℕ, List, ◌≡◌, ◌≤◌, length, take, Result, Ok, Err, MatchResult, IsErrAnd, IfOk, arith, length-take-le, sym, ◌∙◌}
+use Rattle.std.proofs.Common.{arith, length-take-le, sym, ◌∙◌}
 use borrow.Author.Tests.{not-true}
-use Rattle.std.specs.declared.io.Error.{Error}
-use Rattle.std.proofs.lemmas.Result.{IfOk-at_ok}
-use Rattle.stream.specs.Ready.{Ready}
-use Rattle.stream.specs.declared.Input.{Input}
+use Rattle.stream.proofs.Came.{came, readied}
 use Rattle.stream.proofs.Offered.{ready-length, offered}
 use Rattle.transcript.proofs.Promise.{within, taken, sound, nearer}
 use Rattle.replay.proofs.replay.Goals as goal
-
--- what went well before its error was mapped
-came : {T E : Type 0} (D : Type 0) (r : Result T E) (x : T) → MatchResult r (λ y. ◌≡◌ {A = Result T D} (Ok x) (Ok y)) (λ _. ⊥) → r ≡ Ok x
-came D (Ok y) x h = cc
-came D (Err e) x h = absurd h
-
--- what lies ready
-readied : (r : Result Input Error) (buffer : List ℕ) (i : Input) → r ≡ Ok i → IfOk r (λ i. Ready i buffer) → Ready i buffer
-readied r buffer i e h = IfOk-at_ok (λ i. Ready i buffer) e h
 
 pub slice_bounds-write_all-end : goal.slice_bounds-write_all-end
 slice_bounds-write_all-end g c = let w = within _ _ _ _ _ _ c.feed-fed.ensures c.feed-fed.auto.out in omega (arith, w, c.feed-fed.auto.out)
