@@ -1,5 +1,5 @@
 -- What lies ready in a buffer of input: the bytes from a place up to an end within it. There are none only where no more come.
-use Rattle.std.specs.Prelude.{ℕ, ◌-◌, ◌<◌, ◌≤◌, ◌≡◌, Bool, true, false, cond, List, [], length, take, drop, leb, Result, MatchResult}
+use Rattle.std.specs.Prelude.{ℕ, ◌-◌, ◌<◌, ◌≤◌, ◌≡◌, true, false, cond, List, [], length, take, drop, leb, Result, MatchResult}
 use Rattle.std.specs.declared.option.Option.{Option}
 use Rattle.std.specs.Io.KnownBytes.{Consumes, IsAtEnd, Keeps, prepend_known}
 use Rattle.stream.specs.declared.Input.{Input}

@@ -1,5 +1,5 @@
 -- Before the first piece the run is not over; each piece brings its end nearer.
-use Rattle.std.proofs.Common.{refl, ◌∙◌, arith}
+use Rattle.std.proofs.Common.{refl, ◌∙◌}
 use Rattle.pieces.proofs.Landing.{sound-fresh}
 use Rattle.stream.proofs.Came.{came, readied}
 use Rattle.stream.proofs.Offered.{offered}

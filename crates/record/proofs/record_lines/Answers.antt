@@ -1,5 +1,5 @@
 -- A line's record lies within the output; a full output is not empty.
-use Rattle.std.proofs.Common.{◌≡◌, ℕ, ◌-◌, ◌*◌, ◌+◌, length, ◌∙◌, arith, ne_eqb, not}
+use Rattle.std.proofs.Common.{◌≡◌, ◌-◌, ◌*◌, ◌+◌, length, ◌∙◌, arith, ne_eqb, not}
 use Rattle.script.proofs.Within.{within, almost_full}
 use Rattle.record.proofs.Waiting.{waiting, falls}
 use Rattle.record.proofs.record_lines.Goals as goal

@@ -1,6 +1,6 @@
 -- A line lies within the text and its record within the output. Each turn leaves less text, or the same text and an empty
 -- output: a full output is not empty, since a line's record has room in seven bytes.
-use Rattle.std.proofs.Common.{◌≡◌, ℕ, suc, ◌+◌, ◌-◌, ◌*◌, ◌≤◌, cond, nat_eq, length}
+use Rattle.std.proofs.Common.{◌≡◌, suc, ◌+◌, ◌-◌, ◌*◌, ◌≤◌, cond, length}
 use Rattle.record.proofs.Waiting.{waiting}
 use Rattle.record.proofs.record_lines.Given as goal
 
