@@ -3,13 +3,21 @@
 
 #![tactic(auto)]
 
+ghost use Rattle.std.specs.Prelude.{◌<◌, length, OnOk};
+ghost use Rattle.std.specs.Io.KnownBytes.{Appends};
+ghost use Rattle.account.specs.Surveys.{report_of};
+ghost use Rattle.wording.specs.Texts.{text_of};
+ghost use Rattle.audit.specs.Audits.{Audits};
+
 use account::Survey;
 use std::io;
 use std::io::{Read, Write};
 use stream::Failed;
 
 // The report of an audit at its end.
-fn tell<W: Write>(output: &mut W, registers: &[u16], survey: Survey) -> io::Result<()> {
+fn tell<W: Write>(output: &mut W, registers: &[u16], survey: Survey) -> io::Result<()>
+    ensures { OnOk result (Appends (W.contents output.old) (W.contents output.new) (text_of (report_of registers.now survey))) }
+{
     let mut text = [0u8; 4096];
     let n = wording::write(&mut text, account::finish(registers, survey));
     output.write_all(&text[..n])
@@ -21,7 +29,9 @@ fn audit<R: Read, W: Write>(
     output: &mut W,
     registers: &mut [u16],
     piece: &mut [u8],
-) -> Result<(), Failed> {
+) -> Result<(), Failed>
+    ensures { 0 < length piece.old → Audits result (R.remaining input.old) (W.contents output.old) (W.contents output.new) registers.old registers.new }
+{
     let mut survey = account::begin(registers);
     loop {
         let ready = stream::more(input, piece, 0, 0).map_err(Failed::Input)?;

@@ -37,7 +37,7 @@ loop-begun-preserved g c =
     record {
       same = c.more.auto.buffer ∙ inv.same;
       sound = sound _ _ _ _ _ _ c.feed-fed.ensures inv.sound (not-true _ c.loop-begun-test.true);
-      within = r.within;
+      within = omega (arith, r.order, r.within);
       stands = λ h. turn c.loop-begun.begun i c.more.new.buffer _ _ _ c.feed-fed.ensures inv.sound.few r _ _ _ _ _ _ c.loop-begun.from c.loop-begun.to c.loop-begun.piece _
           inv.within (omega (arith, c.more.auto.buffer, inv.same)) (inv.stands h) brought wrote;
     }
