@@ -4,8 +4,9 @@
 
 #![tactic(auto)]
 
-ghost use Rattle.std.specs.Prelude.{length};
+ghost use Rattle.std.specs.Prelude.{◌<◌, length};
 ghost use Rattle.transcript.specs.Claims.{Roomy};
+ghost use Rattle.replay.specs.Replayed.{Replayed};
 
 use std::io::{Read, Write};
 use stream::Failed;
@@ -19,6 +20,7 @@ fn replay<R: Read, W: Write>(
     text: &mut [u8],
 ) -> Result<(), Failed>
     requires { Roomy (length text.old) }
+    ensures { 0 < length piece.old → Replayed result (R.remaining input.old) (W.contents output.old) (W.contents output.new) registers.old registers.new }
 {
     let mut begun = pieces::fresh();
     let mut from = 0;
