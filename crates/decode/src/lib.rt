@@ -23,6 +23,7 @@ fn first_page(part: u32) -> usize
 }
 
 // SR0 to SR3, by their own addresses.
+#[tactic(auto, unfolding(crate::specs::Parts::status_at))]
 fn status_at(address: u32) -> usize
     ensures { result ≡ status_at address }
 {
