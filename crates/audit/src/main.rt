@@ -58,3 +58,6 @@ fn main(rt: HostRuntime) {
         let _ = eprintln!(rt; "audit: {failed}");
     }
 }
+
+#[cfg(test)]
+mod tests;

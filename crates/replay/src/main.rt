@@ -55,3 +55,6 @@ fn main(rt: HostRuntime) {
         let _ = eprintln!(rt; "replay: {failed}");
     }
 }
+
+#[cfg(test)]
+mod tests;

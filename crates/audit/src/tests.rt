@@ -1,0 +1,22 @@
+// The loop over bytes in memory: that it ends well, which no clause says.
+
+use super::audit;
+use std::io;
+
+// 01's whole case, read five bytes at a time at the most; its report stands in examples/whole-case.audit
+#[test]
+fn whole_case(rt: HostRuntime) -> io::Result<()> {
+    let recording =
+        b"\x03\xEE\xF4\x03\x2E\x07\x03\xCE\xF4\x03\x06\x7F\x03\x7A\xFF\x03\x01\x00\x01\x00\x00\x00\x00\x2E\xEF\x02\xCE\xF4\x03";
+    let mut input: &[u8] = recording;
+    let mut output = Vec::new(rt.alloc());
+    let mut registers = [0u16; 100];
+    let mut piece = [0u8; 5];
+    let audited = audit(&mut input, &mut output, &mut registers, &mut piece);
+    assert!(rt; audited.is_ok());
+    assert_eq!(rt;
+        output.as_slice(),
+        b"end: all records read, 00000029 bytes\nkept: from byte 00000018 to the end\nbroken: last at byte 00000006, relocation not left on\nmap: the modes are apart\n".as_slice()
+    );
+    Ok(())
+}
