@@ -1,4 +1,4 @@
-// What a bench links to write recordings and read them back: numbers in, one number out (request E2).
+// The writing of recordings and their reading back, numbers in and one number out (request E2); `bench_c` exports these functions.
 // The codes are in specs/Codes.antt; include/kt11c.h says them for C.
 
 #![tactic(auto)]

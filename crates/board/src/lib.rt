@@ -1,4 +1,4 @@
-// What a board links: each operation over a store lent as a pointer and a count of words, answering one number.
+// Each operation over a lent store, with numbers in and one number out, as a board wants them; `board_c` exports these functions.
 // The codes are in specs/Codes.antt; include/kt11c.h says them for C.
 
 #![tactic(auto)]

@@ -42,7 +42,7 @@ module _ (s : List ℕ) (at : ℕ) where
   unfolding record_at
   at-whole h k l = rw (lt-ltb at (length s) h, k, le-leb _ _ l)
 
--- the tests of recordAt as bools: only the last case is a whole record
+-- the tests of `record_at` as bools: only the last case is a whole record
 only-whole : (a k b : Bool) (e e' : Event) (c c' : Cursor) → cond a (cond k (cond b (Whole e c) (Refused Cut)) (Refused Kind)) End ≡ Whole e' c'
     → (a ≡ true) × (k ≡ true) × (b ≡ true) × (e ≡ e') × (c ≡ c')
 only-whole true true true e e' c c' h = (refl, refl, refl, cc, cc)

@@ -1,5 +1,6 @@
-// What C and Rust link to replay a recording (01, "Recordings"; request E4): a piece at a time, into a lent output. The state between
-// pieces is lent as eleven words, all 0 before the first byte; specs/Tapes.antt and include/kt11c.h say what each holds.
+// The replay of a recording (01, "Recordings"; request E4) as C and Rust want it: a piece at a time, into a lent output; `tape_c` exports
+// these functions. The state between pieces is lent as eleven words, all 0 before the first byte; specs/Tapes.antt and include/kt11c.h say
+// what each holds.
 
 #![tactic(auto)]
 

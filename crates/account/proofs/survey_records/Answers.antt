@@ -1,4 +1,4 @@
--- The loop keeps to the trail: with what is carried at a record, the trail from there is the whole trail.
+-- `survey_records` meets its contract: a record carries the trail on, and where the records end or one is refused the trail ends too.
 use mathlib.Core.Path.{refl, sym, ap, ◌∙◌}
 use mathlib.Core.List.{List}
 use Prim.Native.Nat.{ℕ}

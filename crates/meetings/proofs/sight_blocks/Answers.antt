@@ -1,4 +1,4 @@
--- `sight_blocks` meets its contract. The invariant: the blocks that are left make of the present pass what all make of the first.
+-- `sight_blocks` meets its contract: a block sighted is one turn of the pass, and with no block left the pass is whole.
 use mathlib.Core.Path.{refl, sym, ◌∙◌}
 use borrow.Author.Rules.{rules}
 use Rattle.meetings.proofs.Turns.{blocks-next, blocks-over}

@@ -1,4 +1,4 @@
--- `sight_pages` meets its contract. The invariant: the pages that are left make of the present pass what all make of the first.
+-- `sight_pages` meets its contract: a page sighted is one turn of the pass, and with no page left the pass is whole.
 use mathlib.Core.Path.{refl, sym, ◌∙◌}
 use borrow.Author.Rules.{rules}
 use Rattle.meetings.proofs.Turns.{pages-next, pages-over}

@@ -1,4 +1,4 @@
--- `sight_pages` meets its contract. The invariant: the pages that are left make of the present pass what all make of the first.
+-- The invariant: the pages that are left make of the present pass what all make of the first.
 use mathlib.Core.Path.{◌≡◌}
 use Prim.Native.Nat.{◌≤◌, ◌-◌}
 use lib.ListN.{length}

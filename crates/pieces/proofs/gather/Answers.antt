@@ -1,4 +1,4 @@
--- The loop puts the bytes from the place on over seven zeros, as many as there are.
+-- `gather` meets its contract: each turn puts one byte more, and at the count all that are held are put.
 use mathlib.Core.Path.{◌≡◌}
 use mathlib.Core.List.{List, ◌++◌}
 use Prim.Native.Nat.{ℕ, ◌+◌, ◌-◌, ◌<◌, ◌≤◌, min}

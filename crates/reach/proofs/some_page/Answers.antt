@@ -1,4 +1,4 @@
--- `some_page` meets its contract. The invariant: what is left of the range says what the whole range says.
+-- `some_page` meets its contract: the next page holds the block, or what is left of the range says whether one does.
 use mathlib.Core.Path.{refl, sym, ◌∙◌}
 use borrow.Author.Rules.{rules}
 use Rattle.reach.proofs.Ranges.{some-here, some_next, some-over}

@@ -1,4 +1,4 @@
--- `some_page` meets its contract. The invariant: what is left of the range says what the whole range says.
+-- The invariant: what is left of the range says what the whole range says.
 use mathlib.Core.Path.{◌≡◌}
 use Prim.Native.Nat.{◌≤◌, ◌-◌}
 use Rattle.widening.specs.Some.{some}

@@ -1,4 +1,4 @@
--- The copy is the store: word by word, what is copied so far is the front of both.
+-- `copy` meets its contract: each turn copies one word more, and a hundred words are the whole store.
 use mathlib.Core.Path.{◌≡◌, refl, sym, ◌∙◌}
 use mathlib.Core.List.{List}
 use Prim.Native.Nat.{ℕ, ◌<◌, ◌+◌}

@@ -1,4 +1,4 @@
--- The loop keeps to the stretch that the feed will show: `Reached` holds at each record, and the place moves on.
+-- `replay_records` meets its contract: a record is taken and `Reached` holds at the next, or the stretch ends there as the definition's does.
 use mathlib.Core.Path.{refl, sym, ◌∙◌}
 use mathlib.Core.List.{◌++◌}
 use native.Mathlib.Omega.{arith}

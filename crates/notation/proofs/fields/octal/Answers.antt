@@ -1,4 +1,4 @@
--- The invariant: the number so far is no larger than allowed, and what is left of the word goes on from it.
+-- `octal` meets its contract: a digit goes on with the number, and each way out is a case of the definition.
 use mathlib.Core.Logic.{⊎_elim}
 use native.Mathlib.Omega.{arith}
 use lib.ListN.{get_or}

@@ -1,4 +1,4 @@
--- The invariant: the word is sought among the names that are left.
+-- `place` meets its contract: the next name is none, or the word, or is passed over and the rest is shorter.
 use mathlib.Core.Path.{sym, ◌∙◌}
 use native.Mathlib.Nat.{sub-add-eq}
 use native.Mathlib.Omega.{arith}

@@ -1,4 +1,4 @@
--- The invariant: the whole run is what was passed and the run at what is left.
+-- `run` meets its contract: the next character passes and the run goes on, or the run ends there.
 use mathlib.Core.Path.{sym, ◌∙◌}
 use native.Mathlib.Omega.{arith}
 use Rattle.notation.proofs.Runs.{passed, stopped, ended}

@@ -1,4 +1,4 @@
--- The invariant: the words are the same where what is left of them is.
+-- `same` meets its contract: the next characters differ, or the words go on alike to their end.
 use native.Mathlib.Omega.{arith}
 use Rattle.notation.proofs.Spelling.{unequal, agree, differ, compared}
 use Rattle.notation.proofs.words.same.Goals as goal

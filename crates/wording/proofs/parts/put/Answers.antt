@@ -1,4 +1,4 @@
--- `put` meets its contract. The invariant: the characters passed stand in the output.
+-- `put` meets its contract: each turn stores one character more, and at the end the whole text stands in the output.
 use mathlib.Core.Path.{refl}
 use native.Mathlib.Omega.{arith}
 use lib.ListN.{length-set}

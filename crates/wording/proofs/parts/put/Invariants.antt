@@ -1,4 +1,4 @@
--- `put` meets its contract. The invariant: the characters passed stand in the output.
+-- The invariant: the characters passed stand in the output.
 use mathlib.Core.Path.{◌≡◌}
 use Prim.Native.Nat.{◌≤◌, ◌-◌}
 use lib.ListN.{length, take}
