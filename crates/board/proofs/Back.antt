@@ -1,5 +1,7 @@
 -- A code is read back: its kind and each flag and value by arithmetic. Hence no two small answers have one code.
 use mathlib.Core.Path.{◌≡◌, refl, sym, ap, ◌∙◌}
+use Rattle.std.specs.declared.option.Option.{Option}
+use Rattle.std.proofs.Common.{None, Some}
 use mathlib.Core.Bool.{Bool, true, false}
 use Prim.Native.Nat.{ℕ, ◌+◌, ◌*◌, ◌/◌, ◌%◌}
 use native.Mathlib.Omega.{arith}
@@ -7,8 +9,6 @@ use lib.Dec.{eqb}
 use borrow.Author.Tests.{ne_eqb}
 use Rattle.rules.specs.Paper.{G, A, R, D, X}
 use Rattle.rules.specs.Words.{bit}
-use Rattle.rules.specs.declared.Served.{Served}
-use Rattle.rules.specs.declared.Served.TheVariants.{Page, None}
 use Rattle.rules.proofs.Bools.{bit-small}
 use Rattle.board.specs.Codes.{six_bits, OfThe48, flag, served_of, answer_of, ReadBack, OneToOne}
 use Rattle.board.proofs.Small.{six_bits-small}
@@ -21,8 +21,8 @@ flag_is : (v n : ℕ) (b : Bool) → n / v % 2 ≡ bit b → flag v n ≡ b
 flag_is v n b e = rw e (same_bit b)
 
 -- 63 is none, and no place of the 48 is 63
-same-served : (served : Served) → OfThe48 served → served_of (six_bits served) ≡ served
-same-served (Page place) h = rw (ne_eqb place 63 (λ e. omega arith))
+same-served : (served : Option ℕ) → OfThe48 served → served_of (six_bits served) ≡ served
+same-served (Some place) h = rw (ne_eqb place 63 (λ e. omega arith))
 same-served None h = refl
 
 pub read_back : ReadBack

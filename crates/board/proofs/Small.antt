@@ -1,5 +1,7 @@
 -- Every answer of the unit is small: a byte of rule 5 or rule 1, a page of rule 3 or none, a masked word, a number of the table.
 use mathlib.Core.Path.{◌≡◌, refl, sym, subst}
+use Rattle.std.specs.declared.option.Option.{Option}
+use Rattle.std.proofs.Common.{None, Some}
 use mathlib.Core.Bool.{Bool, true, false, cond, ◌&&◌}
 use mathlib.Core.List.{List, [], ◌∷◌}
 use Prim.Native.Nat.{ℕ, ◌+◌, ◌<◌, ◌≤◌}
@@ -15,8 +17,6 @@ use Rattle.rules.specs.References.{flat_byte, uses_d, page_for, details, aborts,
 use Rattle.rules.specs.Refusals.{Conditions, lowest, conditions, refusal_of}
 use Rattle.rules.specs.Step.{step, accepted}
 use Rattle.rules.specs.declared.Reference.{Reference}
-use Rattle.rules.specs.declared.Served.{Served}
-use Rattle.rules.specs.declared.Served.TheVariants.{Page, None}
 use Rattle.rules.specs.declared.Event.{Event}
 use Rattle.rules.specs.declared.Event.TheVariants.{Refer, Read, Write, Instruction, Interrupt, Change, Init}
 use Rattle.rules.proofs.Bools.{and_l, and_r, page-small}
@@ -70,7 +70,7 @@ sum-small par va = omega arith
 
 -- an abort, or a grant at a small byte by one of the 48
 granted_or_not : (x n e o t : Bool) (k l : List ℕ) (b page : ℕ) → b < 0o1000000 → page < 48
-    → Small (cond {A = Paper × List ℕ} x (A n e o, k) (G b t (Page page), l)).0
+    → Small (cond {A = Paper × List ℕ} x (A n e o, k) (G b t (Some page), l)).0
 granted_or_not true n e o t k l b page h p = tt
 granted_or_not false n e o t k l b page h p = (h, p)
 
@@ -111,8 +111,8 @@ unfolding step
 answers_small l e h = either (eqb (refusal_of l e) 0) (accepted l e) (X (refusal_of l e), l) (accepted-small l e h) (refusal-below l e)
 
 -- a page of the 48, or none, has room in six bits
-pub six_bits-small : (served : Served) → OfThe48 served → six_bits served < 64
-six_bits-small (Page place) h = omega arith
+pub six_bits-small : (served : Option ℕ) → OfThe48 served → six_bits served < 64
+six_bits-small (Some place) h = omega arith
 six_bits-small None h = omega arith
 
 -- as a caller meets it

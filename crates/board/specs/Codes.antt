@@ -1,17 +1,16 @@
 -- An answer as one number of 32 bits, and that no two answers have the same one.
-use Rattle.std.specs.Prelude.{ℕ, ◌+◌, ◌*◌, ◌/◌, ◌%◌, ◌<◌, Bool, cond, eqb, ◌≡◌, List}
+use Rattle.std.specs.Prelude.{ℕ, ◌+◌, ◌*◌, ◌/◌, ◌%◌, ◌<◌, Bool, cond, eqb, ◌≡◌, List, None, Some}
+use Rattle.std.specs.declared.option.Option.{Option}
 use Rattle.rules.specs.Paper.{Paper, G, A, R, D, X}
 use Rattle.rules.specs.Words.{bit}
 use Rattle.rules.specs.Step.{step}
 use Rattle.rules.specs.declared.Reference.{Reference}
-use Rattle.rules.specs.declared.Served.{Served}
-use Rattle.rules.specs.declared.Served.TheVariants.{Page, None}
 use Rattle.rules.specs.declared.Event.{Event}
 use Rattle.rules.specs.declared.Event.TheVariants.{Refer, Read, Write, Instruction, Interrupt, Change, Init}
 
 -- request E1: what goes to bits 23:18, the place of the page that served, or 63 for none
-abbrev pub six_bits : Served → ℕ
-six_bits (Page place) = place
+abbrev pub six_bits : Option ℕ → ℕ
+six_bits (Some place) = place
 six_bits None = 63
 
 -- a grant 0x10000000, with 0x01000000 for a trap, the page at bits 23:18, and the byte; an abort 0x20000000 and its three flags;
@@ -31,8 +30,8 @@ abbrev pub reference_of : ℕ → ℕ → ℕ → ℕ → ℕ → Reference
 reference_of mode space access phase va = record { mode = mode; space = space; access = access; phase = phase; va = va }
 
 -- none, or one of the 48
-abbrev pub OfThe48 : Served → Type 0
-OfThe48 (Page place) = place < 48
+abbrev pub OfThe48 : Option ℕ → Type 0
+OfThe48 (Some place) = place < 48
 OfThe48 None = Unit {0}
 
 -- an answer whose values have room in its code: 18 bits of byte, a page of the 48, 16 bits of word, a number of the table
@@ -61,8 +60,8 @@ AnswersSmall = (l : List ℕ) (e : Event) → Typed e → Small (step l e).0
 abbrev pub flag : ℕ → ℕ → Bool
 flag value code = eqb (code / value % 2) 1
 
-abbrev pub served_of : ℕ → Served
-served_of bits = cond (eqb bits 63) None (Page bits)
+abbrev pub served_of : ℕ → Option ℕ
+served_of bits = cond (eqb bits 63) None (Some bits)
 
 unfoldable pub answer_of : ℕ → Paper
 answer_of code =

@@ -1,5 +1,6 @@
 -- Demand 2, "exactly": with relocation on an answer goes by mode, flags, sum, trap and page alone, as bools case by case.
 use mathlib.Core.Path.{◌≡◌, refl, sym, ◌∙◌}
+use Rattle.std.specs.declared.option.Option.{Option}
 use mathlib.Core.Bool.{Bool, true, false, cond, not, ◌&&◌, ◌||◌, false≢true, true≢false}
 use mathlib.Core.List.{List}
 use Prim.Native.Nat.{ℕ}
@@ -17,7 +18,6 @@ use Rattle.rules.specs.References.{page_for, non_resident_flag, read_only_flag, 
 use Rattle.rules.specs.Refusals.{refusal_of}
 use Rattle.rules.specs.Step.{step}
 use Rattle.rules.specs.declared.Reference.{Reference}
-use Rattle.rules.specs.declared.Served.{Served}
 use Rattle.rules.specs.declared.Event.TheVariants.{Refer}
 use Rattle.claims.specs.Demand2.{Relocated, par_for, pdr_for, writing, Allowed, Barred, Demand2}
 use Rattle.rules.proofs.Bools.{or_l, or_r}
@@ -80,7 +80,7 @@ right-back true false false h = (refl, refl)
 right-back false false o h = (refl, refl)
 
 granted-there : (l : List ℕ) (r : Reference) → Relocated l r
-    → (byte : ℕ) (trap : Bool) (served : Served) → (step l (Refer r)).0 ≡ G byte trap served → Allowed l r byte trap served
+    → (byte : ℕ) (trap : Bool) (served : Option ℕ) → (step l (Refer r)).0 ≡ G byte trap served → Allowed l r byte trap served
 unfolding right_of
 granted-there l r h byte trap served g =
     let key = key_of (pdr_for l r) in
@@ -100,7 +100,7 @@ granted-there l r h byte trap served g =
     }
 
 granted-back : (l : List ℕ) (r : Reference) → Relocated l r
-    → (byte : ℕ) (trap : Bool) (served : Served) → Allowed l r byte trap served → (step l (Refer r)).0 ≡ G byte trap served
+    → (byte : ℕ) (trap : Bool) (served : Option ℕ) → Allowed l r byte trap served → (step l (Refer r)).0 ≡ G byte trap served
 unfolding right_of answer
 granted-back l r h byte trap served a =
     let key = key_of (pdr_for l r) in

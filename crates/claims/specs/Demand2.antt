@@ -1,6 +1,7 @@
 -- Demand 2, "exactly": with relocation on, a reference that is not refused is granted exactly when mode, key and length allow it,
 -- at the byte of the manual's sum, served by rule 3's page; else it is aborted with exactly the flags of rule 4.
-use Rattle.std.specs.Prelude.{ℕ, ◌≤◌, ◌≡◌, ◌↔◌, Bool, true, false, cond, ◌||◌, List, length, eqb}
+use Rattle.std.specs.Prelude.{ℕ, ◌≤◌, ◌≡◌, ◌↔◌, Bool, true, false, cond, ◌||◌, List, length, eqb, Some}
+use Rattle.std.specs.declared.option.Option.{Option}
 use Rattle.page.specs.Fields.{block_of}
 use Rattle.page.specs.Length.{length_error}
 use Rattle.page.specs.Sum.{byte_of}
@@ -10,8 +11,6 @@ use Rattle.rules.specs.Words.{word, PDR, SR0, relocates}
 use Rattle.rules.specs.References.{page_for, non_resident_flag, read_only_flag, traps}
 use Rattle.rules.specs.Step.{step}
 use Rattle.rules.specs.declared.Reference.{Reference}
-use Rattle.rules.specs.declared.Served.{Served}
-use Rattle.rules.specs.declared.Served.TheVariants.{Page}
 use Rattle.rules.specs.declared.Event.TheVariants.{Refer}
 
 -- a reference that is not refused, with relocation on
@@ -34,18 +33,18 @@ abbrev pub writing : Reference → Bool
 writing r = eqb r.access 1
 
 -- the mode is not 2, the key gives the right, the block is within the length; the byte is rule 5's, the trap rule 6's, the page rule 3's
-pub record Allowed (l : List ℕ) (r : Reference) (byte : ℕ) (trap : Bool) (served : Served) : Type 0 where
+pub record Allowed (l : List ℕ) (r : Reference) (byte : ℕ) (trap : Bool) (served : Option ℕ) : Type 0 where
   pub legal : eqb r.mode 2 ≡ false
   pub right : cond (writing r) (right_of (key_of (pdr_for l r))).write (right_of (key_of (pdr_for l r))).read ≡ true
   pub within : length_error (pdr_for l r) (block_of r.va) ≡ false
   pub sum : byte_of (par_for l r) r.va ≡ byte
   pub trapped : traps (word l SR0) (pdr_for l r) (writing r) ≡ trap
-  pub page : Page (page_for l r) ≡ served
+  pub page : Some (page_for l r) ≡ served
 
 abbrev pub GrantedExactly : Type 0
 GrantedExactly =
     (l : List ℕ) (r : Reference) → Relocated l r
-    → (byte : ℕ) (trap : Bool) (served : Served) → ((step l (Refer r)).0 ≡ G byte trap served) ↔ Allowed l r byte trap served
+    → (byte : ℕ) (trap : Bool) (served : Option ℕ) → ((step l (Refer r)).0 ≡ G byte trap served) ↔ Allowed l r byte trap served
 
 -- rule 2's flag, or rule 4's three, each by its own test; and one at least is set
 pub record Barred (l : List ℕ) (r : Reference) (nonresident length readonly : Bool) : Type 0 where

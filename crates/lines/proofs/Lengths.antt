@@ -1,15 +1,15 @@
 -- No line is empty, and none is longer than the longest, a grant's: each kind's length computes.
 use Prim.Native.Nat.{ℕ, ◌<◌}
+use Rattle.std.specs.declared.option.Option.{Option}
 use mathlib.Core.Path.{◌≡◌}
 use mathlib.Core.Bool.{Bool}
 use lib.ListN.{length}
 use lib.Dec.{lit≤, lit<}
 use Rattle.rules.specs.Paper.{Paper, G, A, R, D, X}
-use Rattle.rules.specs.declared.Served.{Served}
 use Rattle.lines.specs.Lines.{line_of, longest, NoneLonger}
 use Rattle.lines.proofs.Served.{two_characters}
 
-pub granted-longest : (byte : ℕ) (trap : Bool) (served : Served) → length (line_of (G byte trap served)) ≡ longest
+pub granted-longest : (byte : ℕ) (trap : Bool) (served : Option ℕ) → length (line_of (G byte trap served)) ≡ longest
 unfolding line_of
 granted-longest byte trap served = rw (two_characters served)
 

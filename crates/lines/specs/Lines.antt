@@ -1,9 +1,8 @@
 -- The line of an answer (01, "Recordings").
-use Rattle.std.specs.Prelude.{ℕ, ◌+◌, ◌≤◌, cond, List, [], ◌∷◌, ◌++◌, length, take, drop, leb}
+use Rattle.std.specs.Prelude.{ℕ, ◌+◌, ◌≤◌, cond, List, [], ◌∷◌, ◌++◌, length, take, drop, leb, None, Some}
+use Rattle.std.specs.declared.option.Option.{Option}
 use Rattle.rules.specs.Paper.{Paper, G, A, R, D, X}
 use Rattle.rules.specs.Words.{bit}
-use Rattle.rules.specs.declared.Served.{Served}
-use Rattle.rules.specs.declared.Served.TheVariants.{Page, None}
 use Rattle.lines.specs.Digits.{digit, octal, decimal}
 
 abbrev pub Text : Type 0
@@ -14,8 +13,8 @@ abbrev pub character : ℕ → Text
 character c = c ∷ []
 
 -- request E1: the page that served, its place in two decimal digits, or `--`
-abbrev pub served_text : Served → Text
-served_text (Page place) = decimal 2 place
+abbrev pub served_text : Option ℕ → Text
+served_text (Some place) = decimal 2 place
 served_text None = 45 ∷ 45 ∷ []
 
 -- the parts of a line

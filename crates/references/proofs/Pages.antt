@@ -1,5 +1,6 @@
 -- Rules 4 to 9 over the store are the ruling on its words by value, with PDR and SR0 stored back whether they changed or not.
 use mathlib.Core.Path.{◌≡◌, refl, sym, ap, ◌∙◌}
+use Rattle.std.proofs.Common.{Some}
 use mathlib.Core.Bool.{Bool, true, false, cond, ◌||◌}
 use mathlib.Core.List.{List}
 use Prim.Native.Nat.{ℕ, ◌+◌}
@@ -10,7 +11,6 @@ use Rattle.page.specs.Fields.{block_of}
 use Rattle.page.specs.Length.{length_error}
 use Rattle.page.specs.Sum.{byte_of}
 use Rattle.rules.specs.Paper.{Paper, G, A}
-use Rattle.rules.specs.declared.Served.TheVariants.{Page}
 use Rattle.rules.specs.Words.{word, PDR, SR0}
 use Rattle.rules.specs.References.{ruled, non_resident_flag, read_only_flag, condition, traps, marks_of, abort_flags, trap_flag, sr0_after}
 use Rattle.ruling.specs.Rulings.{Ruled, ruling_of}
@@ -34,7 +34,7 @@ by_value l page write loaded va =
     let o = read_only_flag pdr write in
     let b = byte_of (word l page) va in
     let t = traps sr0 pdr write in
-    by_case (n || e || o) l page (A n e o) (G b t (Page page)) (sr0_after sr0 (abort_flags n e o) loaded)
+    by_case (n || e || o) l page (A n e o) (G b t (Some page)) (sr0_after sr0 (abort_flags n e o) loaded)
     (bit_or pdr (marks_of b (condition pdr write) write)) (sr0_after sr0 (trap_flag t) loaded)
 
 -- as `examined` meets it

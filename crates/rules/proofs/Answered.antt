@@ -5,13 +5,15 @@ use mathlib.Core.List.{List}
 use Prim.Native.Nat.{ℕ}
 use lib.Dec.{eqb}
 use borrow.Author.Tests.{eqb-true}
+use Rattle.std.proofs.Common.{Result, Ok, Err}
 use Rattle.rules.specs.Paper.{Paper, G, A, R, D, X, number, paper}
 use Rattle.rules.specs.References.{referred, illegal_mode, examined, ruled}
 use Rattle.rules.specs.Refusals.{refusal_of}
 use Rattle.rules.specs.Step.{step, accepted}
 use Rattle.rules.specs.declared.Reference.{Reference}
+use Rattle.rules.specs.declared.Refusal.{Refusal}
 use Rattle.rules.specs.declared.Answer.{Answer}
-use Rattle.rules.specs.declared.Answer.TheVariants.{Granted, Aborted, Word, Done, Refused}
+use Rattle.rules.specs.declared.Answer.TheVariants.{Granted, Aborted, Word, Done}
 use Rattle.rules.specs.declared.Event.{Event}
 use Rattle.rules.specs.declared.Event.TheVariants.{Refer, Read, Write, Instruction, Interrupt, Change, Init}
 use Rattle.rules.proofs.Bools.{cond-first, cond_same}
@@ -61,21 +63,21 @@ refusal-listed l (Interrupt vector) = simp (cond-listed, cond_same)
 refusal-listed l (Change register amount) = simp (cond-listed, cond_same)
 refusal-listed l Init = simp (cond-listed, cond_same)
 
-unrefused : (p : Paper) → refuses p ≡ false → (a : Answer) × (paper a ≡ p)
+unrefused : (p : Paper) → refuses p ≡ false → (a : Result Answer Refusal) × (paper a ≡ p)
 unfolding refuses
-unrefused (G byte trap served) h = (Granted byte trap served, refl)
-unrefused (A n e o) h = (Aborted n e o, refl)
-unrefused (R w) h = (Word w, refl)
-unrefused D h = (Done, refl)
+unrefused (G byte trap served) h = (Ok (Granted byte trap served), refl)
+unrefused (A n e o) h = (Ok (Aborted n e o), refl)
+unrefused (R w) h = (Ok (Word w), refl)
+unrefused D h = (Ok Done, refl)
 unrefused (X n) h = absurd (true≢false h)
 
-pub answered : (l : List ℕ) (e : Event) → (a : Answer) × (paper a ≡ (step l e).0)
+pub answered : (l : List ℕ) (e : Event) → (a : Result Answer Refusal) × (paper a ≡ (step l e).0)
 unfolding step listed
 answered l e = by (eqb (refusal_of l e) 0) refl
   where
-    by : (x : Bool) → eqb (refusal_of l e) 0 ≡ x → (a : Answer) × (paper a ≡ (cond {A = Paper × List ℕ} x (accepted l e) (X (refusal_of l e), l)).0)
+    by : (x : Bool) → eqb (refusal_of l e) 0 ≡ x → (a : Result Answer Refusal) × (paper a ≡ (cond {A = Paper × List ℕ} x (accepted l e) (X (refusal_of l e), l)).0)
     by true h = unrefused (accepted l e).0 (accepted-answers l e)
     by false h =
         let n = refusal_of l e in
         let z = rw h at (refusal-listed l e) in
-        (Refused (numbered n), ap X (eqb-true (number (numbered n)) n z))
+        (Err (numbered n), ap X (eqb-true (number (numbered n)) n z))

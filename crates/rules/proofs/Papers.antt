@@ -3,9 +3,10 @@ use Prim.Native.Nat.{ℕ}
 use mathlib.Core.Path.{◌≡◌, refl, sym, ap, ◌∙◌}
 use mathlib.Core.List.{[], ◌∷◌}
 use lib.ListN.{get_or}
+use Rattle.std.proofs.Common.{Result, Ok, Err}
 use Rattle.rules.specs.Paper.{Paper, G, A, R, D, X, number, paper, PaperOneToOne}
 use Rattle.rules.specs.declared.Answer.{Answer}
-use Rattle.rules.specs.declared.Answer.TheVariants.{Granted, Aborted, Word, Done, Refused}
+use Rattle.rules.specs.declared.Answer.TheVariants.{Granted, Aborted, Word, Done}
 use Rattle.rules.specs.declared.Refusal.{Refusal}
 use Rattle.rules.specs.declared.Refusal.TheVariants.{
   Store,
@@ -47,20 +48,20 @@ same-refusal Cut = refl
 same-refusal Long = refl
 same-refusal Room = refl
 
-back : Paper → Answer
-back (G byte trap served) = Granted byte trap served
-back (A nonresident length readonly) = Aborted nonresident length readonly
-back (R w) = Word w
-back D = Done
-back (X n) = Refused (numbered n)
+back : Paper → Result Answer Refusal
+back (G byte trap served) = Ok (Granted byte trap served)
+back (A nonresident length readonly) = Ok (Aborted nonresident length readonly)
+back (R w) = Ok (Word w)
+back D = Ok Done
+back (X n) = Err (numbered n)
 
-same_answer : (a : Answer) → back (paper a) ≡ a
+same_answer : (a : Result Answer Refusal) → back (paper a) ≡ a
 unfolding back
-same_answer (Granted byte trap served) = refl
-same_answer (Aborted nonresident length readonly) = refl
-same_answer (Word w) = refl
-same_answer Done = refl
-same_answer (Refused r) = ap Refused (same-refusal r)
+same_answer (Ok (Granted byte trap served)) = refl
+same_answer (Ok (Aborted nonresident length readonly)) = refl
+same_answer (Ok (Word w)) = refl
+same_answer (Ok Done) = refl
+same_answer (Err r) = ap Err (same-refusal r)
 
 pub paper_one_to_one : PaperOneToOne
 paper_one_to_one a b e = sym (same_answer a) ∙ ap back e ∙ same_answer b

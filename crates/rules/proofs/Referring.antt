@@ -1,5 +1,7 @@
 -- The answer to a reference by its tests, one after the other, and what a grant tells of them: case by case.
 use mathlib.Core.Path.{◌≡◌, refl, sym, ◌∙◌}
+use Rattle.std.specs.declared.option.Option.{Option}
+use Rattle.std.proofs.Common.{None, Some}
 use mathlib.Core.Bool.{Bool, true, false, cond, false≢true}
 use mathlib.Core.List.{List}
 use Prim.Native.Nat.{ℕ}
@@ -25,8 +27,6 @@ use Rattle.rules.specs.References.{
 use Rattle.rules.specs.Refusals.{refusal_of}
 use Rattle.rules.specs.Step.{step, accepted}
 use Rattle.rules.specs.declared.Reference.{Reference}
-use Rattle.rules.specs.declared.Served.{Served}
-use Rattle.rules.specs.declared.Served.TheVariants.{Page, None}
 use Rattle.rules.specs.declared.Event.TheVariants.{Refer}
 use Rattle.rules.proofs.Bools.{cond-first}
 
@@ -34,14 +34,14 @@ use Rattle.rules.proofs.Bools.{cond-first}
 unfoldable pub answer : (x y z a : Bool) (n f : ℕ) (nonresident length readonly : Bool) (byte : ℕ) (trap : Bool) (page : ℕ) → Paper
 answer x y z a n f nonresident length readonly byte trap page =
     cond x
-    (cond y (cond z (A true false false) (cond a (A nonresident length readonly) (G byte trap (Page page)))) (G f false None))
+    (cond y (cond z (A true false false) (cond a (A nonresident length readonly) (G byte trap (Some page)))) (G f false None))
     (X n)
 
 -- it was not refused; a page is there if relocation is on; and then the mode is legal, no flag was set, and byte and trap are the page's
 granted-by :
-    (x y z a : Bool) (n f : ℕ) (p q s : Bool) (byte b : ℕ) (trap t : Bool) (page : ℕ) (served : Served)
+    (x y z a : Bool) (n f : ℕ) (p q s : Bool) (byte b : ℕ) (trap t : Bool) (page : ℕ) (served : Option ℕ)
     → answer x y z a n f p q s byte trap page ≡ G b t served
-    → (x ≡ true) × (served ≡ cond y (Page page) None) × (y ≡ true → (z ≡ false) × (a ≡ false) × (b ≡ byte) × (t ≡ trap))
+    → (x ≡ true) × (served ≡ cond y (Some page) None) × (y ≡ true → (z ≡ false) × (a ≡ false) × (b ≡ byte) × (t ≡ trap))
 unfolding answer
 granted-by false y z a n f p q s byte b trap t page served h = let e : ◌≡◌ {A = ℕ} 0 1 = cc in absurd (omega arith)
 granted-by true false z a n f p q s byte b trap t page served h = (refl, cc, λ e. absurd (false≢true e))
@@ -66,9 +66,9 @@ module _ (l : List ℕ) (r : Reference) where
   answered = simp cond-first
 
   -- and what a grant tells of it
-  pub granted-tells : (byte : ℕ) (trap : Bool) (served : Served) → (step l (Refer r)).0 ≡ G byte trap served
+  pub granted-tells : (byte : ℕ) (trap : Bool) (served : Option ℕ) → (step l (Refer r)).0 ≡ G byte trap served
       → (eqb (refusal_of l (Refer r)) 0 ≡ true)
-      × (served ≡ cond (relocates (word l SR0)) (Page (page_for l r)) None)
+      × (served ≡ cond (relocates (word l SR0)) (Some (page_for l r)) None)
       × (relocates (word l SR0) ≡ true
       → (eqb r.mode 2 ≡ false)
       × (aborts pdr write r.va ≡ false)

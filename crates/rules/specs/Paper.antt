@@ -1,14 +1,14 @@
--- An answer in document 01's own terms: its letter, its values, and for a refusal its number.
-use Rattle.std.specs.Prelude.{ℕ, ◌≡◌, Bool}
-use Rattle.rules.specs.declared.Served.{Served}
+-- What an operation gives, an answer or a refusal, in document 01's own terms: its letter, its values, and for a refusal its number.
+use Rattle.std.specs.Prelude.{ℕ, ◌≡◌, Bool, Result, Ok, Err}
+use Rattle.std.specs.declared.option.Option.{Option}
 use Rattle.rules.specs.declared.Answer.{Answer}
-use Rattle.rules.specs.declared.Answer.TheVariants.{Granted, Aborted, Word, Done, Refused}
+use Rattle.rules.specs.declared.Answer.TheVariants.{Granted, Aborted, Word, Done}
 use Rattle.rules.specs.declared.Refusal.{Refusal}
 use Rattle.rules.specs.declared.Refusal.TheVariants.{Store, Mode, Space, Access, Phase, High, Odd, NoRegister, BadChange, Full, Kind, Cut, Long, Room}
 
 -- G byte trap served; A non-resident length read-only; R word; D done; X number
 pub data Paper : Type 0 where
-  G : ℕ → Bool → Served → Paper
+  G : ℕ → Bool → Option ℕ → Paper
   A : Bool → Bool → Bool → Paper
   R : ℕ → Paper
   D : Paper
@@ -31,13 +31,13 @@ number Cut = 12
 number Long = 13
 number Room = 14
 
-abbrev pub paper : Answer → Paper
-paper (Granted byte trap served) = G byte trap served
-paper (Aborted nonresident length readonly) = A nonresident length readonly
-paper (Word w) = R w
-paper Done = D
-paper (Refused r) = X (number r)
+abbrev pub paper : Result Answer Refusal → Paper
+paper (Ok (Granted byte trap served)) = G byte trap served
+paper (Ok (Aborted nonresident length readonly)) = A nonresident length readonly
+paper (Ok (Word w)) = R w
+paper (Ok Done) = D
+paper (Err r) = X (number r)
 
--- no two answers have the same letter and values
+-- no two of them have the same letter and values
 abbrev pub PaperOneToOne : Type 0
-PaperOneToOne = (a b : Answer) → paper a ≡ paper b → a ≡ b
+PaperOneToOne = (a b : Result Answer Refusal) → paper a ≡ paper b → a ≡ b

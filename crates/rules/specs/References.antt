@@ -1,5 +1,5 @@
 -- A reference that is not refused: rules 1 to 10 of document 01.
-use Rattle.std.specs.Prelude.{ℕ, ◌+◌, ◌*◌, Bool, true, false, cond, ◌&&◌, ◌||◌, List, set, ltb, eqb}
+use Rattle.std.specs.Prelude.{ℕ, ◌+◌, ◌*◌, Bool, true, false, cond, ◌&&◌, ◌||◌, List, set, ltb, eqb, None, Some}
 use Rattle.std.specs.Int.Bits.{bit_or, bit_and}
 use Rattle.page.specs.Fields.{page_of, block_of}
 use Rattle.page.specs.Length.{length_error}
@@ -9,7 +9,6 @@ use Rattle.rules.specs.Keys.{key_of, non_resident, read_only, traps_on_read, tra
 use Rattle.rules.specs.Words.{word, PDR, SR0, SR3, bit, relocates, traps_enabled, frozen, enables_d}
 use Rattle.rules.specs.Addresses.{in_registers}
 use Rattle.rules.specs.declared.Reference.{Reference}
-use Rattle.rules.specs.declared.Served.TheVariants.{Page, None}
 
 -- rule 1: relocation off; from 160000 up the byte is VA + 600000
 abbrev pub flat_byte : ℕ → ℕ
@@ -79,7 +78,7 @@ ruled l page write loaded va =
     let trap = traps sr0 pdr write in
     cond (nonresident || length || readonly)
     (A nonresident length readonly, set l SR0 (sr0_after sr0 (abort_flags nonresident length readonly) loaded))
-    (G byte trap (Page page), set (set l (PDR page) (bit_or pdr (marks_of byte (condition pdr write) write))) SR0 (sr0_after sr0 (trap_flag trap) loaded))
+    (G byte trap (Some page), set (set l (PDR page) (bit_or pdr (marks_of byte (condition pdr write) write))) SR0 (sr0_after sr0 (trap_flag trap) loaded))
 
 -- rule 3, and then the page found
 unfoldable pub examined : List ℕ → Reference → Paper × List ℕ

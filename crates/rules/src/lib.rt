@@ -6,7 +6,7 @@ ghost use Rattle.std.specs.Prelude.{◌≡◌};
 ghost use Rattle.rules.specs.Paper.{number as number_of};
 
 // A reference (01, "A reference"). The numbers are as the caller gives them; rules and refusals judge them.
-#[derive(Clone, Copy)]
+#[derive(Clone, Copy, Debug, PartialEq, Eq)]
 pub struct Reference {
     pub mode: u32,
     pub space: u32,
@@ -16,7 +16,7 @@ pub struct Reference {
 }
 
 // Everything that can happen to the unit.
-#[derive(Clone, Copy)]
+#[derive(Clone, Copy, Debug, PartialEq, Eq)]
 pub enum Event {
     Refer(Reference),
     Read { address: u32 },
@@ -28,7 +28,7 @@ pub enum Event {
 }
 
 // What is refused, in the order of 01's table, 1 to 13; then 14 of request E2.
-#[derive(Clone, Copy)]
+#[derive(Clone, Copy, Debug, PartialEq, Eq)]
 pub enum Refusal {
     Store,
     Mode,
@@ -47,41 +47,37 @@ pub enum Refusal {
 }
 
 // A refusal's number.
-pub fn number(r: Refusal) -> u32
-    ensures { result ≡ number_of r }
-{
-    match r {
-        Refusal::Store => 1,
-        Refusal::Mode => 2,
-        Refusal::Space => 3,
-        Refusal::Access => 4,
-        Refusal::Phase => 5,
-        Refusal::High => 6,
-        Refusal::Odd => 7,
-        Refusal::NoRegister => 8,
-        Refusal::BadChange => 9,
-        Refusal::Full => 10,
-        Refusal::Kind => 11,
-        Refusal::Cut => 12,
-        Refusal::Long => 13,
-        Refusal::Room => 14,
+impl From<Refusal> for u32 {
+    ghost from_gives = { λ r n. n ≡ number_of r };
+
+    fn from(r: Refusal) -> u32 {
+        match r {
+            Refusal::Store => 1,
+            Refusal::Mode => 2,
+            Refusal::Space => 3,
+            Refusal::Access => 4,
+            Refusal::Phase => 5,
+            Refusal::High => 6,
+            Refusal::Odd => 7,
+            Refusal::NoRegister => 8,
+            Refusal::BadChange => 9,
+            Refusal::Full => 10,
+            Refusal::Kind => 11,
+            Refusal::Cut => 12,
+            Refusal::Long => 13,
+            Refusal::Room => 14,
+        }
     }
 }
 
-// Which page let a reference through (request E1): its place among the 48, counted as in the store; none where rule 1 grants.
-#[derive(Clone, Copy)]
-pub enum Served {
-    Page(u8),
-    None,
-}
-
-// What the unit answers.
-#[derive(Clone, Copy)]
+// What the unit answers to an event that is not refused. A grant says which page let the reference through (request E1): its place
+// among the 48, counted as in the store; none where rule 1 grants.
+#[derive(Clone, Copy, Debug, PartialEq, Eq)]
 pub enum Answer {
     Granted {
         byte: u32,
         trap: bool,
-        served: Served,
+        served: Option<u8>,
     },
     Aborted {
         nonresident: bool,
@@ -90,11 +86,10 @@ pub enum Answer {
     },
     Word(u16),
     Done,
-    Refused(Refusal),
 }
 
 // What a page's key allows, and on which access its trap condition holds (Table 2-2).
-#[derive(Clone, Copy)]
+#[derive(Clone, Copy, Debug, PartialEq, Eq)]
 pub struct Right {
     pub read: bool,
     pub write: bool,

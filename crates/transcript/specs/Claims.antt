@@ -1,7 +1,6 @@
 -- What feeds make together, however the recording is cut. The proofs are in proofs/.
-use Rattle.std.specs.Prelude.{ℕ, ◌+◌, ◌*◌, ◌<◌, ◌≤◌, ◌≡◌, Bool, true, false, ◌&&◌, List, [], ◌∷◌, ◌++◌, length, take, drop, replicate, leb}
+use Rattle.std.specs.Prelude.{ℕ, ◌+◌, ◌*◌, ◌<◌, ◌≤◌, ◌≡◌, Bool, true, false, ◌&&◌, List, [], ◌∷◌, ◌++◌, length, take, drop, replicate, leb, Some}
 use Rattle.rules.specs.Paper.{G, R, D}
-use Rattle.rules.specs.declared.Served.TheVariants.{Page}
 use Rattle.lines.specs.Lines.{Text, line_of, longest}
 use Rattle.pieces.specs.Limit.{limit}
 use Rattle.pieces.specs.Begun.{fresh, all_of, Few, held_count, Offers}
@@ -131,4 +130,4 @@ whole_case_bytes =
 abbrev pub WholeCase : Type 0
 WholeCase =
     (transcript whole_case_bytes (replicate 100 0)).0
-    ≡ line_of D ++ line_of D ++ line_of D ++ line_of (G 0o355256 false (Page 7)) ++ line_of (R 0o077406)
+    ≡ line_of D ++ line_of D ++ line_of D ++ line_of (G 0o355256 false (Some 7)) ++ line_of (R 0o077406)

@@ -1,13 +1,14 @@
 -- Demand 3 of the operation: a call's promise is `step`, so that calls one after the other go as a run does, and an answer is read off its paper.
 use Prim.Native.Nat.{ℕ}
+use Rattle.std.specs.declared.option.Option.{Option}
 use mathlib.Core.Path.{◌≡◌, refl, sym, ◌∙◌, ap}
 use mathlib.Core.Bool.{Bool}
 use mathlib.Core.List.{List, [], ◌∷◌, ◌++◌, append_assoc}
+use Rattle.std.proofs.Common.{Ok}
 use Rattle.rules.specs.Paper.{Paper}
 use Rattle.rules.specs.Step.{step}
 use Rattle.rules.specs.declared.Answer.TheVariants.{Granted}
 use Rattle.rules.specs.declared.Reference.{Reference}
-use Rattle.rules.specs.declared.Served.{Served}
 use Rattle.rules.specs.declared.Event.{Event}
 use Rattle.rules.specs.declared.Event.TheVariants.{Refer}
 use Rattle.rules.proofs.Papers.{paper_one_to_one}
@@ -33,8 +34,8 @@ together (next e a h p) q = next e a h (together p q)
 
 -- what a call granted, `step` grants in the store that the run comes to
 asked :
-    {m k : List ℕ} (x : List ℕ) (r : Reference) (byte : ℕ) (trap : Bool) (served : Served)
-    → m ≡ k → Applied m (Refer r) (Granted byte trap served) x → Given k r byte served
+    {m k : List ℕ} (x : List ℕ) (r : Reference) (byte : ℕ) (trap : Bool) (served : Option ℕ)
+    → m ≡ k → Applied m (Refer r) (Ok (Granted byte trap served)) x → Given k r byte served
 asked x r byte trap served here g =
     let granted = sym (ap (λ (o : Paper × List ℕ). o.0) g) in
     (trap, rw here at granted)
@@ -43,7 +44,7 @@ pub kept_by_calls : KeptByCalls
 kept_by_calls l m n on es fs p q calm r byte trap served x g phase small a y h =
     let kept = demand3.kept l on es fs calm r byte served (asked x r byte trap served (came_to p) g) phase small in
     let answer = ap (λ (o : Paper × List ℕ). o.0) h in
-    (kept.0, paper_one_to_one a (Granted byte kept.0 served) ((rw (came_to (together p q)) at answer) ∙ kept.1))
+    (kept.0, paper_one_to_one a (Ok (Granted byte kept.0 served)) ((rw (came_to (together p q)) at answer) ∙ kept.1))
 
 pub never_shared_by_calls : NeverSharedByCalls
 never_shared_by_calls l m n o on es fs gs p q s calm clear r t byte trap again served other x y g h =

@@ -1,6 +1,8 @@
 -- With relocation on, a reference is granted exactly if it is not refused, its mode is legal and its page does not abort it; a wider map keeps that,
 -- with byte and page.
 use mathlib.Core.Path.{◌≡◌, refl, sym, ◌∙◌}
+use Rattle.std.specs.declared.option.Option.{Option}
+use Rattle.std.proofs.Common.{Some}
 use mathlib.Core.Bool.{Bool, true, false, cond, ◌&&◌, ◌||◌, false≢true, true≢false}
 use mathlib.Core.List.{List}
 use Prim.Native.Nat.{ℕ, ◌≤◌}
@@ -16,8 +18,6 @@ use Rattle.rules.specs.Words.{word, PDR, SR0}
 use Rattle.rules.specs.References.{page_for, aborts, traps, non_resident_flag}
 use Rattle.rules.specs.Refusals.{refusal_of, lowest, of_reference}
 use Rattle.rules.specs.declared.Reference.{Reference}
-use Rattle.rules.specs.declared.Served.{Served}
-use Rattle.rules.specs.declared.Served.TheVariants.{Page}
 use Rattle.rules.specs.declared.Event.TheVariants.{Refer}
 use Rattle.widening.specs.LastMap.{On, Granted, in_phase}
 use Rattle.rules.proofs.Bools.{page-small}
@@ -25,19 +25,19 @@ use Rattle.rules.proofs.Referring.{answer, answered, granted-tells}
 use Rattle.widening.proofs.Wider.{PageWider, Wider}
 
 -- what a grant at a byte by a page comes to
-pub record Grant (l : List ℕ) (r : Reference) (byte : ℕ) (served : Served) : Type 0 where
+pub record Grant (l : List ℕ) (r : Reference) (byte : ℕ) (served : Option ℕ) : Type 0 where
   pub accepts : lowest (of_reference r) ≡ 0
   pub legal : eqb r.mode 2 ≡ false
   pub free : aborts (word l (PDR (page_for l r))) (eqb r.access 1) r.va ≡ false
   pub lies : byte ≡ byte_of (word l (page_for l r)) r.va
-  pub serves : served ≡ Page (page_for l r)
+  pub serves : served ≡ Some (page_for l r)
 
 module _ (l : List ℕ) (r : Reference) where
   refusal-of : length l ≡ 100 → refusal_of l (Refer r) ≡ lowest (of_reference r)
   unfolding refusal_of
   refusal-of whole = rw (eq-eqb (length l) 100 whole)
 
-  pub grant_of_lem : On l → (byte : ℕ) (served : Served) → Granted l r byte served → Grant l r byte served
+  pub grant_of_lem : On l → (byte : ℕ) (served : Option ℕ) → Granted l r byte served → Grant l r byte served
   grant_of_lem o byte served g =
       let t = granted-tells l r byte g.0 served g.1 in
       let u = t.2 o.relocating in
@@ -49,7 +49,7 @@ module _ (l : List ℕ) (r : Reference) where
         serves = t.1 ∙ rw o.relocating;
       }
 
-  pub granted-of : On l → (byte : ℕ) (served : Served) → Grant l r byte served → Granted l r byte served
+  pub granted-of : On l → (byte : ℕ) (served : Option ℕ) → Grant l r byte served → Granted l r byte served
   unfolding answer
   granted-of o byte served g = (
     traps (word l SR0) (word l (PDR (page_for l r))) (eqb r.access 1),
@@ -87,7 +87,7 @@ accepts-phase false false true d e h f = absurd (omega arith)
 accepts-phase false false false d e h f = rw f
 
 -- a wider map keeps every grant, at the same byte by the same page
-pub grant_kept : (l m : List ℕ) → Wider l m → (r : Reference) (byte : ℕ) (served : Served) → Grant l r byte served
+pub grant_kept : (l m : List ℕ) → Wider l m → (r : Reference) (byte : ℕ) (served : Option ℕ) → Grant l r byte served
     → (phase : ℕ) → phase ≤ 1 → Grant m (in_phase phase r) byte served
 grant_kept l m w r byte served g phase small =
     let p = page_for l r in

@@ -1,5 +1,6 @@
 -- Demand 3: from the wider map that a run leaves, and from the page and block by which a mode reaches.
 use mathlib.Core.Path.{◌≡◌, refl}
+use Rattle.std.specs.declared.option.Option.{Option}
 use mathlib.Core.Bool.{Bool, true, false, cond, not, ◌&&◌, and-eq-true_iff}
 use mathlib.Core.List.{List, ◌++◌}
 use Prim.Native.Nat.{ℕ, zero, suc, ◌+◌, ◌*◌, ◌/◌, ◌≤◌, ◌<◌}
@@ -12,7 +13,6 @@ use Rattle.rules.specs.Keys.{key_of, non_resident, read_only}
 use Rattle.rules.specs.Words.{word, PDR, SR3, bit, enables_d}
 use Rattle.rules.specs.References.{page_for, non_resident_flag}
 use Rattle.rules.specs.declared.Reference.{Reference}
-use Rattle.rules.specs.declared.Served.{Served}
 use Rattle.rules.specs.declared.Event.{Event}
 use Rattle.widening.specs.Reaches.{is_mode, reaches}
 use Rattle.widening.specs.Runs.{after, calm}
@@ -100,7 +100,7 @@ reach_grows l o es fs h mode block =
 
 -- what is granted at a point of the run is reached in the last map
 granted-last : (l : List ℕ) → On l → (run es fs : List Event) → run ≡ es ++ fs → calm l run ≡ true
-    → (r : Reference) (byte : ℕ) (served : Served) → Granted (after l es) r byte served → reaches (after l run) r.mode (byte / 64) ≡ true
+    → (r : Reference) (byte : ℕ) (served : Option ℕ) → Granted (after l es) r byte served → reaches (after l run) r.mode (byte / 64) ≡ true
 granted-last l o run es fs e h r byte served g =
     let c : calm l (es ++ fs) ≡ true = rw e at h in
     rw e (reach_grows l o es fs c r.mode (byte / 64) (grants_reached (after l es) (stays_on_lem l o es (calm-append l es fs c).0) r byte served g))

@@ -1,10 +1,9 @@
 -- The premises of demand 3 can be met: a run that widens, with a grant, a refusal and an abort, and maps of three modes that stay apart.
-use Rattle.std.specs.Prelude.{ℕ, ◌≡◌, true, false, List, [], ◌∷◌, set, replicate}
+use Rattle.std.specs.Prelude.{ℕ, ◌≡◌, true, false, List, [], ◌∷◌, set, replicate, Some}
 use Rattle.rules.specs.Paper.{Paper, G, A, D, X}
 use Rattle.rules.specs.Words.{PDR, SR0}
 use Rattle.rules.specs.declared.Event.{Event}
 use Rattle.rules.specs.declared.Event.TheVariants.{Refer, Write}
-use Rattle.rules.specs.declared.Served.TheVariants.{Page}
 use Rattle.widening.specs.Reaches.{apart}
 use Rattle.widening.specs.Runs.{after, answers, calm}
 use Rattle.widening.specs.LastMap.{On}
@@ -38,8 +37,8 @@ run =
 
 abbrev pub answered : List Paper
 answered =
-    G 0o010217 false (Page 0) ∷ G 0o100017 false (Page 16) ∷ G 0o217777 false (Page 32)
-    ∷ D ∷ D ∷ D ∷ D ∷ X 7 ∷ A false false true ∷ G 0o010217 false (Page 0) ∷ []
+    G 0o010217 false (Some 0) ∷ G 0o100017 false (Some 16) ∷ G 0o217777 false (Some 32)
+    ∷ D ∷ D ∷ D ∷ D ∷ X 7 ∷ A false false true ∷ G 0o010217 false (Some 0) ∷ []
 
 -- every premise of demand 3 holds of this run, and its answers are these
 pub record Example : Type 0 where

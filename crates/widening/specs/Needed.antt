@@ -1,13 +1,12 @@
 -- Each premise of demand 3 is needed: a table of single steps, each of which drops one premise alone. The grant is lost, or its page,
 -- and User is granted the byte that Kernel was granted, although in the last map no two modes reach a common block.
-use Rattle.std.specs.Prelude.{ℕ, ◌≡◌, Bool, true, false, List, [], ◌∷◌, map, set, replicate}
+use Rattle.std.specs.Prelude.{ℕ, ◌≡◌, Bool, true, false, List, [], ◌∷◌, map, set, replicate, None, Some}
+use Rattle.std.specs.declared.option.Option.{Option}
 use Rattle.rules.specs.Paper.{Paper, G, A}
 use Rattle.rules.specs.Words.{word, SR0, SR3, relocates}
 use Rattle.rules.specs.Step.{step}
 use Rattle.rules.specs.declared.Event.{Event}
 use Rattle.rules.specs.declared.Event.TheVariants.{Write, Init}
-use Rattle.rules.specs.declared.Served.{Served}
-use Rattle.rules.specs.declared.Served.TheVariants.{Page, None}
 use Rattle.widening.specs.Reaches.{apart}
 use Rattle.widening.specs.Runs.{after}
 use Rattle.widening.specs.Premises.{premises}
@@ -20,16 +19,16 @@ pub record Line : Type 0 where
   pub store : List ℕ
   pub asks : Event
   pub byte : ℕ
-  pub served : Served
+  pub served : Option ℕ
   pub drops : Event
   pub again : Paper
 
-abbrev pub line : ℕ → List ℕ → Event → ℕ → Served → Event → Paper → Line
+abbrev pub line : ℕ → List ℕ → Event → ℕ → Option ℕ → Event → Paper → Line
 line n l r b p e a = record { premise = n; store = l; asks = r; byte = b; served = p; drops = e; again = a }
 
 -- a line, a reference of User that is granted the same byte after the step, and the page or none that serves it
 abbrev pub Both : Type 0
-Both = Line × Event × Served
+Both = Line × Event × Option ℕ
 
 -- SR0, then PAR and PDR of page 0 of Kernel I and of User I; every other word 0
 abbrev pub holding : ℕ → ℕ → ℕ → ℕ → ℕ → List ℕ
@@ -45,47 +44,47 @@ abbrev pub kernel : ℕ → Event
 kernel va = refer 0 0 1 va
 
 -- a line with such a reference: a write by User, space 0
-abbrev pub and_user : ℕ → Served → Line → Both
+abbrev pub and_user : ℕ → Option ℕ → Line → Both
 and_user va served t = (t, refer 3 0 1 va, served)
 
 abbrev pub sharing : List Both
 sharing =
     -- relocation off at first, then on
-    and_user 0o017 (Page 32)
-    (line 0 (holding 0 0o100 0o077406 0 0o000406) (kernel 0o017) 0o000017 None (Write 0o777572 1) (G 0o010017 false (Page 0)))
+    and_user 0o017 (Some 32)
+    (line 0 (holding 0 0o100 0o077406 0 0o000406) (kernel 0o017) 0o000017 None (Write 0o777572 1) (G 0o010017 false (Some 0)))
     -- INIT
     ∷ and_user 0o010217 None
-    (line 1 (holding 1 0o100 0o077406 0o1000 0o077406) (kernel 0o217) 0o010217 (Page 0) Init (G 0o000217 false None))
+    (line 1 (holding 1 0o100 0o077406 0o1000 0o077406) (kernel 0o217) 0o010217 (Some 0) Init (G 0o000217 false None))
     -- SR3 disables D for Kernel
-    ∷ and_user 0o217 (Page 32)
-    (line 2 (with_d 0o1000 (holding 1 0o100 0o077406 0o1000 0o077406)) (refer 0 1 1 0o217) 0o100217 (Page 8) (Write 0o772516 0) (G 0o010217 false (Page 0)))
+    ∷ and_user 0o217 (Some 32)
+    (line 2 (with_d 0o1000 (holding 1 0o100 0o077406 0o1000 0o077406)) (refer 0 1 1 0o217) 0o100217 (Some 8) (Write 0o772516 0) (G 0o010217 false (Some 0)))
     -- SR0 bit 0 is written 0
     ∷ and_user 0o010217 None
-    (line 3 (holding 1 0o100 0o077406 0o1000 0o077406) (kernel 0o217) 0o010217 (Page 0) (Write 0o777572 0) (G 0o000217 false None))
+    (line 3 (holding 1 0o100 0o077406 0o1000 0o077406) (kernel 0o217) 0o010217 (Some 0) (Write 0o777572 0) (G 0o000217 false None))
     -- another PAR at a resident page
-    ∷ and_user 0o217 (Page 32)
-    (line 4 (holding 1 0o100 0o077406 0o100 0o077406) (kernel 0o217) 0o010217 (Page 0) (Write 0o772340 0o300) (G 0o030217 false (Page 0)))
+    ∷ and_user 0o217 (Some 32)
+    (line 4 (holding 1 0o100 0o077406 0o100 0o077406) (kernel 0o217) 0o010217 (Some 0) (Write 0o772340 0o300) (G 0o030217 false (Some 0)))
     -- ED 0 becomes 1
-    ∷ and_user 0o217 (Page 32)
-    (line 5 (holding 1 0o100 0o077406 0o100 0o017406) (kernel 0o217) 0o010217 (Page 0) (Write 0o772300 0o077416) (A false true false))
+    ∷ and_user 0o217 (Some 32)
+    (line 5 (holding 1 0o100 0o077406 0o100 0o017406) (kernel 0o217) 0o010217 (Some 0) (Write 0o772300 0o077416) (A false true false))
     -- ED 0, a smaller length; ED 1, a larger one
-    ∷ and_user 0o017 (Page 32)
-    (line 6 (holding 1 0o100 0o077406 0o102 0o017406) (kernel 0o217) 0o010217 (Page 0) (Write 0o772300 0o000406) (A false true false))
-    ∷ and_user 0o217 (Page 32)
-    (line 6 (holding 1 0o100 0o000016 0o100 0o001406) (kernel 0o217) 0o010217 (Page 0) (Write 0o772300 0o002016) (A false true false))
+    ∷ and_user 0o017 (Some 32)
+    (line 6 (holding 1 0o100 0o077406 0o102 0o017406) (kernel 0o217) 0o010217 (Some 0) (Write 0o772300 0o000406) (A false true false))
+    ∷ and_user 0o217 (Some 32)
+    (line 6 (holding 1 0o100 0o000016 0o100 0o001406) (kernel 0o217) 0o010217 (Some 0) (Write 0o772300 0o002016) (A false true false))
     -- key 6 becomes 0
-    ∷ and_user 0o217 (Page 32)
-    (line 7 (holding 1 0o100 0o077406 0o100 0o077406) (kernel 0o217) 0o010217 (Page 0) (Write 0o772300 0o077400) (A true false false))
+    ∷ and_user 0o217 (Some 32)
+    (line 7 (holding 1 0o100 0o077406 0o100 0o077406) (kernel 0o217) 0o010217 (Some 0) (Write 0o772300 0o077400) (A true false false))
     ∷ []
 
 -- two more, of the first half alone
 abbrev pub table : List Line
 table =
     -- SR3 disables D for Kernel, whose D page 0 and I page 0 lie over the same blocks: the byte is kept, the page is not
-    line 2 (with_d 0o100 (holding 1 0o100 0o077406 0o1000 0o077406)) (refer 0 1 1 0o217) 0o010217 (Page 8) (Write 0o772516 0)
-    (G 0o010217 false (Page 0))
+    line 2 (with_d 0o100 (holding 1 0o100 0o077406 0o1000 0o077406)) (refer 0 1 1 0o217) 0o010217 (Some 8) (Write 0o772516 0)
+    (G 0o010217 false (Some 0))
     -- key 6 becomes 2: the write is lost, but Kernel still reaches the block
-    ∷ line 7 (holding 1 0o100 0o077406 0o1000 0o077406) (kernel 0o217) 0o010217 (Page 0) (Write 0o772300 0o077402) (A false false true)
+    ∷ line 7 (holding 1 0o100 0o077406 0o1000 0o077406) (kernel 0o217) 0o010217 (Some 0) (Write 0o772300 0o077402) (A false false true)
     ∷ map (λ t. t.0) sharing
 
 abbrev pub last : Line → List ℕ
