@@ -9,3 +9,4 @@ pub mod Referring
 pub mod Masks
 pub mod Length
 pub mod Answered
+pub mod SameNumber

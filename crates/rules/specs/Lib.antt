@@ -7,3 +7,4 @@ pub mod Registers
 pub mod Others
 pub mod Refusals
 pub mod Step
+pub mod Modes

@@ -5,6 +5,16 @@
 ghost use Rattle.std.specs.Prelude.{◌≡◌};
 ghost use Rattle.rules.specs.Paper.{number as number_of};
 
+mod modes;
+
+pub use modes::Mode;
+
+// The words of a store.
+pub const WORDS: usize = 100;
+
+// A store of the right length: 48 PARs, their PDRs in the same order, SR0 to SR3.
+pub type Store = [u16; WORDS];
+
 // A reference (01, "A reference"). The numbers are as the caller gives them; rules and refusals judge them.
 #[derive(Clone, Copy, Debug, PartialEq, Eq)]
 pub struct Reference {
