@@ -52,8 +52,8 @@ event_code e = 0x7000000000000000 + kind_of e * 0x100000000000000 + fields e
 -- reading: 7 in bits 63:60, the kind in bits 59:56 and the fields; 5 and the refusal's number; 0 at the end
 abbrev pub found_code : Found → ℕ
 found_code (Ok (Some (e, next))) = event_code e
-found_code (Ok None) = 0
 found_code (Err r) = 0x5000000000000000 + number r
+found_code (Ok None) = 0
 
 -- the event that a code stands for
 abbrev pub unexcess : ℕ → ℤ
