@@ -15,7 +15,6 @@ ghost use Rattle.bench.specs.Codes.{reference_of, coded, found_code};
 use rules::{Event, Reference};
 
 // Appends an event's record.
-#[tactic(auto, using(crate::proofs::Appended::appended))]
 fn record(buffer: &mut [u8], used: usize, event: Event) -> u32
     ensures { (result, buffer.new) ≡ coded used (write buffer.old used event) }
 {
