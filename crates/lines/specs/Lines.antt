@@ -51,8 +51,8 @@ abbrev pub NoneLonger : Type 0
 NoneLonger = (p : Paper) → length (line_of p) ≤ longest
 
 -- a text at a place of the output, where it fits: how many bytes are written, and the output afterwards
-unfoldable pub placed : List ℕ → ℕ → Text → ℕ × List ℕ
+unfoldable pub placed : List ℕ → ℕ → Text → Option ℕ × List ℕ
 placed out at text =
     cond (leb (at + length text) (length out))
-    (length text, take at out ++ text ++ drop (at + length text) out)
-    (0, out)
+    (Some (length text), take at out ++ text ++ drop (at + length text) out)
+    (None, out)
