@@ -14,8 +14,8 @@ use Rattle.rules.specs.Words.{word, PDR}
 use Rattle.widening.specs.Some.{some}
 use Rattle.widening.specs.Reaches.{allows, page_reaches}
 use Rattle.widening.proofs.Reached.{some-found, some_holds}
-use Rattle.reach.proofs.Ranges.{same_test}
-use Rattle.reach.proofs.Pages.{on_page}
+use Rattle.std.proofs.lemmas.Bool.Decides.{same_from_decides}
+use Rattle.reach.proofs.Holds.{on_page}
 use Rattle.meetings.specs.Pass.{first_block, end_block}
 
 -- the allowed blocks of a page are a range: x the test of ED
@@ -91,4 +91,4 @@ by-range l block page = by (non_resident (key_of pdr)) refl
 
     by : (x : Bool) → non_resident (key_of pdr) ≡ x → some (on_page par pdr block) 0 128 ≡ cond (non_resident (key_of pdr)) false range
     by true e = absent_none par pdr block e ∙ rw e
-    by false e = same_test _ _ (λ t. into_range par pdr block t e) (out_of_range par pdr block e) ∙ rw e
+    by false e = same_from_decides {P = range ≡ true} _ _ (λ t. into_range par pdr block t e, out_of_range par pdr block e) (λ t. t, λ t. t) ∙ rw e

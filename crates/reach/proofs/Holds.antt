@@ -13,7 +13,7 @@ use Rattle.widening.specs.Some.{some}
 use Rattle.widening.specs.Reaches.{allows, page_reaches}
 use Rattle.widening.proofs.Reached.{some-found, some_holds}
 use Rattle.reach.specs.Reaching.{holds}
-use Rattle.reach.proofs.Ranges.{same_test}
+use Rattle.std.proofs.lemmas.Bool.Decides.{same_from_decides}
 
 -- block b of a page lies in a block of memory exactly if it is the difference
 difference : (par block b : ℕ) → block < 4096 → b < 128 → memory_block par b ≡ block → b ≡ (block + 4096 - base_of par) % 4096
@@ -46,4 +46,5 @@ difference-holds par pdr block h t =
 pub page-reaches : (l : List ℕ) (block page : ℕ) → block < 4096 → page_reaches l block page ≡ holds (word l page) (word l (PDR page)) block
 unfolding page_reaches
 page-reaches l block page h =
-    same_test _ _ (by_difference (word l page) (word l (PDR page)) block h) (difference-holds (word l page) (word l (PDR page)) block h)
+    same_from_decides {P = holds (word l page) (word l (PDR page)) block ≡ true} _ _
+    (by_difference (word l page) (word l (PDR page)) block h, difference-holds (word l page) (word l (PDR page)) block h) (λ t. t, λ t. t)
