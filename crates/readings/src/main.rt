@@ -3,17 +3,14 @@
 
 #![tactic(auto)]
 
-use rules::{Answer, Event, Reference};
+use rules::{Answer, Event, Reference, Refusal};
 use std::io;
 
 // An answer's line.
-fn show(rt: &impl Print, a: Answer) -> io::Result<()> {
-    let mut text = [0u8; 16];
-    let n = lines::put(&mut text, 0, a);
-    if n <= 16 {
-        rt.write_all(&text[..n])?;
-    }
-    Ok(())
+fn show(rt: &impl Print, a: Result<Answer, Refusal>) -> io::Result<()> {
+    let mut text = [0u8; lines::LONGEST];
+    let n = lines::put(&mut text, 0, a).unwrap_or(0);
+    rt.write_all(text.get(..n).unwrap_or(b""))
 }
 
 fn title(rt: &impl Print, words: &[u8]) -> io::Result<()> {

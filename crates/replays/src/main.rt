@@ -4,7 +4,6 @@
 
 #![tactic(auto)]
 
-ghost use Rattle.std.specs.Prelude.{◌≡◌, length};
 
 use pieces::Begun;
 use std::io;
@@ -18,11 +17,9 @@ fn feed(
     last: bool,
 ) -> io::Result<Begun> {
     let mut text = [0u8; 4096];
-    let step = recording::feed(registers, begun, piece, last, &mut text);
-    let n = step.written;
-    rt.write_all(&text[..n])?;
-    let reached = step.reached;
-    Ok(reached.begun)
+    let fed = recording::feed(registers, begun, piece, last, &mut text);
+    rt.write_all(&text[..fed.written])?;
+    Ok(fed.reached.begun)
 }
 
 // the lines of a whole recording from a store
@@ -159,12 +156,9 @@ fn empty(rt: &impl Print) -> io::Result<()> {
 // the last bytes of a recording, after so many others
 fn show_from(rt: &impl Print, at: usize, piece: &[u8]) -> io::Result<()> {
     let mut registers = [0u16; 100];
-    let none = pieces::fresh();
-    let held = none.held;
     let begun = Begun {
-        held,
         at,
-        over: false,
+        ..pieces::fresh()
     };
     feed(rt, &mut registers, begun, piece, true)?;
     Ok(())
@@ -190,33 +184,23 @@ fn limit(rt: &impl Print) -> io::Result<()> {
 }
 
 // 01's whole case
-fn whole_case() -> [u8; 29]
-    ensures { 29 ≡ length result }
-{
-    [
-        0x03, 0xEE, 0xF4, 0x03, 0x2E, 0x07, 0x03, 0xCE, 0xF4, 0x03, 0x06, 0x7F, 0x03, 0x7A, 0xFF,
-        0x03, 0x01, 0x00, 0x01, 0x00, 0x00, 0x00, 0x00, 0x2E, 0xEF, 0x02, 0xCE, 0xF4, 0x03,
-    ]
-}
+const WHOLE_CASE: [u8; 29] = *b"\x03\xEE\xF4\x03\x2E\x07\x03\xCE\xF4\x03\x06\x7F\x03\x7A\xFF\x03\x01\x00\x01\x00\x00\x00\x00\x2E\xEF\x02\xCE\xF4\x03";
 
 // a whole recording cut in two at a place
 fn show_cut(rt: &impl Print, recording: &[u8], at: usize) -> io::Result<()> {
-    if recording.len() < at {
+    let Some((front, back)) = recording.split_at_checked(at) else {
         return Ok(());
-    }
+    };
     let mut registers = [0u16; 100];
-    let begun = feed(rt, &mut registers, pieces::fresh(), &recording[..at], false)?;
-    feed(rt, &mut registers, begun, &recording[at..], true)?;
+    let begun = feed(rt, &mut registers, pieces::fresh(), front, false)?;
+    feed(rt, &mut registers, begun, back, true)?;
     Ok(())
 }
 
 // It is cut at each of its thirty places: D, D, D, G 355256 - 07, R 077406 each time
 fn cuts(rt: &impl Print) -> io::Result<()> {
-    let recording = whole_case();
-    let mut at = 0;
-    while at < 30 {
-        show_cut(rt, &recording, at)?;
-        at += 1;
+    for at in 0..=WHOLE_CASE.len() {
+        show_cut(rt, &WHOLE_CASE, at)?;
     }
     Ok(())
 }
