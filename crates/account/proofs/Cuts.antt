@@ -1,4 +1,5 @@
 -- However a recording is cut, its audit is the uncut one's: what a piece adds and what the rest then adds is what both add at once.
+use Rattle.std.proofs.Common.{Ok, Err, Some, None}
 use mathlib.Core.Path.{◌≡◌, refl, ap, ◌∙◌}
 use mathlib.Core.Bool.{Bool, true}
 use mathlib.Core.List.{List}
@@ -12,9 +13,8 @@ use Rattle.rules.specs.declared.Event.{Event}
 use Rattle.rules.specs.declared.Refusal.{Refusal}
 use Rattle.records.specs.Recordings.{Records, event, end, refusal}
 use Rattle.records.specs.declared.Cursor.{Cursor}
-use Rattle.records.specs.declared.Found.TheVariants.{Whole, Refused, End}
 use Rattle.pieces.specs.Limit.{seen_at, seen_from}
-use Rattle.pieces.proofs.Seen.{seen-advances, by-seen}
+use Rattle.pieces.proofs.SeenFrom.{seen-advances, by-seen}
 use Rattle.pieces.proofs.Shifted.{shifted}
 use Rattle.pieces.proofs.Fronts.{Front}
 use Rattle.auditing.specs.Verdicts.{verdict_of}
@@ -40,7 +40,7 @@ module _ (beyond last : Bool) (s : List ℕ) (base : ℕ) where
   pub record Trailed (at : ℕ) (kept : Kept) (broken : Broken) (l : List ℕ) (t : Trail) : Type 0 where
     pub within : at ≤ length s → t.0.at ≤ length s
     pub words : length t.1 ≡ length l
-    pub spent : t.0.ending ≡ All → seen_at beyond last s t.0.at ≡ End
+    pub spent : t.0.ending ≡ All → seen_at beyond last s t.0.at ≡ Ok None
     pub together : (beyond' : Bool) (s' : List ℕ) → Front beyond last s beyond' s'
         → trail base (seen_from beyond' true s' at) at kept broken l
         ≡ onwards t.0.ending t (trail base (seen_from beyond' true s' t.0.at) t.0.at t.0.kept t.0.broken t.1)
@@ -48,12 +48,12 @@ module _ (beyond last : Bool) (s : List ℕ) (base : ℕ) where
   Goes : ℕ → Records → Type 0
   Goes at rs = (kept : Kept) (broken : Broken) (l : List ℕ) → Trailed at kept broken l (trail base rs at kept broken l)
 
-  at-end : (at : ℕ) → seen_at beyond last s at ≡ End → Goes at end
+  at-end : (at : ℕ) → seen_at beyond last s at ≡ Ok None → Goes at end
   unfolding trail Goes
   at-end at e kept broken l =
       record { within = λ h. h; words = refl; spent = λ h. e; together = λ beyond' s' f. refl }
 
-  at-refused : (at : ℕ) (r : Refusal) → seen_at beyond last s at ≡ Refused r → Goes at (refusal r)
+  at-refused : (at : ℕ) (r : Refusal) → seen_at beyond last s at ≡ Err r → Goes at (refusal r)
   unfolding trail Goes
   at-refused at r e kept broken l =
       record {
@@ -63,7 +63,7 @@ module _ (beyond last : Bool) (s : List ℕ) (base : ℕ) where
         together = λ beyond' s' f. trail-refused beyond' true s' base at kept broken l r (f.refused at r e);
       }
 
-  at-whole : (at : ℕ) (v : Event) (c : Cursor) → seen_at beyond last s at ≡ Whole v c → Goes c.at (seen_from beyond last s c.at)
+  at-whole : (at : ℕ) (v : Event) (c : Cursor) → seen_at beyond last s at ≡ Ok (Some (v, c)) → Goes c.at (seen_from beyond last s c.at)
       → Goes at (event v c.at (seen_from beyond last s c.at))
   unfolding trail Goes
   at-whole at v c e next kept broken l =

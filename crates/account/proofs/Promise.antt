@@ -1,4 +1,5 @@
 -- What a caller has from the promise of `feed`: each piece brings the end nearer.
+use Rattle.std.proofs.Common.{Ok, None}
 use mathlib.Core.Path.{◌≡◌, refl}
 use mathlib.Core.Bool.{Bool, true, false}
 use mathlib.Core.List.{List}
@@ -7,7 +8,6 @@ use native.Mathlib.Omega.{arith}
 use lib.Dec.{eqb}
 use lib.ListN.{length}
 use borrow.Author.Tests.{eqb-true, eqb-false}
-use Rattle.records.specs.declared.Found.TheVariants.{End}
 use Rattle.pieces.specs.Limit.{seen_at}
 use Rattle.pieces.specs.Begun.{inside, beyond, to_tell, Offers, landed}
 use Rattle.pieces.specs.declared.How.TheVariants.{Full, Spent}
@@ -31,7 +31,7 @@ all_read (Stopped r) h = let z : ◌≡◌ {A = ℕ} 0 1 = cc in absurd (omega a
 -- the trail of a piece, where the run is not over
 pub record Went (v : Survey) (piece : List ℕ) (last : Bool) (t : Trail) : Type 0 where
   pub within : t.0.at ≤ length (inside v.begun piece)
-  pub spent : t.0.ending ≡ All → seen_at (beyond v.begun piece) last (inside v.begun piece) t.0.at ≡ End
+  pub spent : t.0.ending ≡ All → seen_at (beyond v.begun piece) last (inside v.begun piece) t.0.at ≡ Ok None
 
 module _ (l : List ℕ) (v : Survey) (piece : List ℕ) (last : Bool) (o : v.begun.over ≡ false) where
   by-words : (w : Bool) → eqb (length l) 100 ≡ w → Went v piece last (trail v.begun.at (to_tell v.begun piece last l) 0 v.kept v.broken l)

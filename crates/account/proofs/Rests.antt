@@ -1,4 +1,5 @@
 -- A piece and then the rest add to an audit what both add at once: after a stop nothing, and else the rest goes on with the same bytes.
+use Rattle.std.proofs.Common.{Ok, None}
 use mathlib.Core.Path.{◌≡◌, refl, sym, ap, ◌∙◌}
 use mathlib.Core.Bool.{true, false, cond}
 use mathlib.Core.List.{List, ◌++◌}
@@ -9,7 +10,6 @@ use lib.Seq.{drop-length}
 use borrow.Author.Tests.{ltb-false}
 use Rattle.rules.specs.declared.Refusal.{Refusal}
 use Rattle.records.specs.Recordings.{Records}
-use Rattle.records.specs.declared.Found.TheVariants.{End}
 use Rattle.records.proofs.Parts.{stands}
 use Rattle.pieces.specs.Limit.{seen_at, seen_from}
 use Rattle.pieces.specs.Begun.{joined, allowed, inside, beyond, records_in, Few, onward, holding, landed}
@@ -102,7 +102,7 @@ module _ (v : Survey) (piece more l : List ℕ) where
 
   -- where no record is left, what is held and what comes are the bytes from there on
   module _ (t : Trail) (few : Few v.begun) (words : length t.1 ≡ 100) (within : t.0.at ≤ length (inside v.begun piece))
-      (spent : seen_at (beyond v.begun piece) false (inside v.begun piece) t.0.at ≡ End) where
+      (spent : seen_at (beyond v.begun piece) false (inside v.begun piece) t.0.at ≡ Ok None) where
     near : (t.0.at ≤ allowed v.begun) × (t.0.at ≤ length (joined v.begun piece)) × (t.0.at ≤ length (joined v.begun (piece ++ more)))
         × (length (joined v.begun piece) - t.0.at ≤ 7)
     near =
@@ -168,7 +168,7 @@ module _ (v : Survey) (piece more l : List ℕ) where
 
   -- by how the piece ended
   by-ending : (t : Trail) (e : Ending) → t.0.ending ≡ e → Few v.begun → length t.1 ≡ 100 → t.0.at ≤ length (inside v.begun piece)
-      → (e ≡ All → seen_at (beyond v.begun piece) false (inside v.begun piece) t.0.at ≡ End)
+      → (e ≡ All → seen_at (beyond v.begun piece) false (inside v.begun piece) t.0.at ≡ Ok None)
       → final (left_by v piece t e) more t.1 ≡ ended_at v.begun (onwards e t (over-more v (piece ++ more) t.0.at t.0.kept t.0.broken t.1))
   unfolding ended_at
   by-ending t All h few w n s = after-all t few w n (s refl)

@@ -1,4 +1,5 @@
 -- A trail over what is seen from a place on: by what stands there.
+use Rattle.std.proofs.Common.{Ok, Err, Some, None}
 use mathlib.Core.Path.{◌≡◌}
 use mathlib.Core.Bool.{Bool}
 use mathlib.Core.List.{List}
@@ -8,9 +9,8 @@ use Rattle.rules.specs.Step.{step}
 use Rattle.rules.specs.declared.Event.{Event}
 use Rattle.rules.specs.declared.Refusal.{Refusal}
 use Rattle.records.specs.declared.Cursor.{Cursor}
-use Rattle.records.specs.declared.Found.TheVariants.{Whole, Refused, End}
 use Rattle.pieces.specs.Limit.{seen_at, seen_from}
-use Rattle.pieces.proofs.Seen.{every_seen}
+use Rattle.pieces.proofs.SeenFrom.{every_seen}
 use Rattle.auditing.specs.Verdicts.{verdict_of}
 use Rattle.account.specs.declared.Kept.{Kept}
 use Rattle.account.specs.declared.Broken.{Broken}
@@ -19,16 +19,16 @@ use Rattle.account.specs.Surveys.{course, trail}
 use Rattle.account.specs.Turns.{kept_after, broken_after}
 
 module _ (beyond last : Bool) (s : List ℕ) (base at : ℕ) (kept : Kept) (broken : Broken) (l : List ℕ) where
-  pub trail-end : seen_at beyond last s at ≡ End → trail base (seen_from beyond last s at) at kept broken l ≡ (course kept broken at All, l)
+  pub trail-end : seen_at beyond last s at ≡ Ok None → trail base (seen_from beyond last s at) at kept broken l ≡ (course kept broken at All, l)
   unfolding trail
   trail-end e = rw (every_seen beyond last s at, e)
 
-  pub trail-refused : (r : Refusal) → seen_at beyond last s at ≡ Refused r
+  pub trail-refused : (r : Refusal) → seen_at beyond last s at ≡ Err r
       → trail base (seen_from beyond last s at) at kept broken l ≡ (course kept broken at (Stopped r), l)
   unfolding trail
   trail-refused r e = rw (every_seen beyond last s at, e)
 
-  pub trail-event : (v : Event) (c : Cursor) → seen_at beyond last s at ≡ Whole v c
+  pub trail-event : (v : Event) (c : Cursor) → seen_at beyond last s at ≡ Ok (Some (v, c))
       → trail base (seen_from beyond last s at) at kept broken l
       ≡ trail base (seen_from beyond last s c.at) c.at
       (kept_after kept (verdict_of l v) (relocates (word (step l v).1 SR0)) (base + c.at))

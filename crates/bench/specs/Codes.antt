@@ -1,11 +1,10 @@
 -- What C sees of a recording that is written or read: one number. include/kt11c.h says the same for C.
-use Rattle.std.specs.Prelude.{ℕ, ◌+◌, ◌*◌, ◌-◌, ◌/◌, ◌%◌, ◌≡◌, cond, List, ltb, eqb, ℤ, pos, negsuc}
+use Rattle.std.specs.Prelude.{ℕ, ◌+◌, ◌*◌, ◌-◌, ◌/◌, ◌%◌, ◌≡◌, cond, List, ltb, eqb, ℤ, pos, negsuc, Ok, Err, Some, None}
 use Rattle.rules.specs.Paper.{number}
 use Rattle.rules.specs.declared.Reference.{Reference}
 use Rattle.rules.specs.declared.Event.{Event}
 use Rattle.rules.specs.declared.Event.TheVariants.{Refer, Read, Write, Instruction, Interrupt, Change, Init}
-use Rattle.records.specs.declared.Found.{Found}
-use Rattle.records.specs.declared.Found.TheVariants.{Whole, Refused, End}
+use Rattle.records.specs.Records.{Found}
 use Rattle.rules.specs.Refusals.{lowest}
 use Rattle.writer.specs.Writing.{Said, Used, X, large}
 use Rattle.trips.specs.Trips.{Held}
@@ -52,9 +51,9 @@ event_code e = 0x7000000000000000 + kind_of e * 0x100000000000000 + fields e
 
 -- reading: 7 in bits 63:60, the kind in bits 59:56 and the fields; 5 and the refusal's number; 0 at the end
 abbrev pub found_code : Found → ℕ
-found_code (Whole e next) = event_code e
-found_code (Refused r) = 0x5000000000000000 + number r
-found_code End = 0
+found_code (Ok (Some (e, next))) = event_code e
+found_code (Err r) = 0x5000000000000000 + number r
+found_code (Ok None) = 0
 
 -- the event that a code stands for
 abbrev pub unexcess : ℕ → ℤ

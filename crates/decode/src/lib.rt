@@ -2,64 +2,66 @@
 
 #![tactic(auto)]
 
-ghost use Rattle.std.specs.Prelude.{◌≡◌, ◌≤◌};
-ghost use Rattle.rules.specs.Addresses.{register_at, in_registers};
-ghost use Rattle.decode.specs.Parts.{first_of, status_at};
+ghost use Rattle.std.specs.Prelude.{◌≡◌};
+ghost use Rattle.rules.specs.Addresses.{in_registers};
+ghost use Rattle.decode.specs.Parts.{place_at, mode_at, status_at};
 
-// Where the pages of a mode begin, by the 64 bytes of the I/O page that its registers fill; 48 for no mode's.
-fn first_page(part: u32) -> usize
-    ensures { (result ≡ first_of part) × (result ≤ 48) }
+use rules::Mode;
+
+// Where the four status words stand in a store.
+pub const SR0: usize = 96;
+
+pub const SR1: usize = 97;
+
+pub const SR2: usize = 98;
+
+pub const SR3: usize = 99;
+
+// The mode whose registers fill these 64 bytes of the I/O page.
+#[tactic(auto, unfolding(crate::specs::Parts::mode_at))]
+fn mode_at(part: u32) -> Option<Mode>
+    ensures { result ≡ mode_at part }
 {
-    if part == 0o7723 {
-        return 0;
+    match part {
+        0o7723 => Some(Mode::Kernel),
+        0o7722 => Some(Mode::Supervisor),
+        0o7776 => Some(Mode::User),
+        _ => None,
     }
-    if part == 0o7722 {
-        return 16;
-    }
-    if part == 0o7776 {
-        return 32;
-    }
-    48
 }
 
 // SR0 to SR3, by their own addresses.
 #[tactic(auto, unfolding(crate::specs::Parts::status_at))]
-fn status_at(address: u32) -> usize
+fn status_at(address: u32) -> Option<usize>
     ensures { result ≡ status_at address }
 {
-    if address == 0o777572 {
-        return 96;
+    match address {
+        0o777572 => Some(SR0),
+        0o777574 => Some(SR1),
+        0o777576 => Some(SR2),
+        0o772516 => Some(SR3),
+        _ => None,
     }
-    if address == 0o777574 {
-        return 97;
-    }
-    if address == 0o777576 {
-        return 98;
-    }
-    if address == 0o772516 {
-        return 99;
-    }
-    100
 }
 
-// The place of the register at an address, 100 where there is none. A mode has 16 PDRs, and then 16 PARs.
-#[tactic(auto, using(crate::proofs::Same::register_by_part), unfolding(crate::specs::Parts::by_part))]
-pub fn register_at(address: u32) -> usize
-    ensures { result ≡ register_at address }
+// The place of the register at an address. A mode has 16 PDRs, and then 16 PARs.
+#[tactic(auto, using(crate::proofs::Same::place_by_part), unfolding(crate::specs::Parts::by_part))]
+pub fn register_at(address: u32) -> Option<usize>
+    ensures { result ≡ place_at address }
 {
     if address % 2 == 1 {
-        return 100;
+        return None;
     }
-    let first = first_page(address / 64);
-    if first == 48 {
+    let Some(mode) = mode_at(address / 64) else {
         return status_at(address);
-    }
-    first + (address / 2 % 16) as usize + 48 * (1 - address / 32 % 2) as usize
+    };
+    Some(mode.first_page() + (address / 2 % 16) as usize + 48 * (1 - address / 32 % 2) as usize)
 }
 
 // rule 7: a byte lies in one of the 100 registers' words
+#[tactic(auto, using(crate::proofs::Same::found))]
 pub fn in_registers(byte: u32) -> bool
     ensures { result ≡ in_registers byte }
 {
-    register_at(byte / 2 * 2) < 100
+    register_at(byte / 2 * 2).is_some()
 }

@@ -35,6 +35,6 @@ pub fn length_error(pdr: u16, block: u16) -> bool
 pub fn byte_of(par: u16, va: u16) -> u32
     ensures { (result ≡ byte_of par va) × (result < 0o1000000) }
 {
-    let block = (par % 4096 + va / 64 % 128) % 4096;
-    (block as u32) * 64 + (va % 64) as u32
+    let block = (par % 4096 + block_of(va)) % 4096;
+    u32::from(block) * 64 + u32::from(va % 64)
 }

@@ -1,4 +1,5 @@
 -- A record in two parts of a recording: read from its first seven bytes, it stands as in the whole, so many bytes further on.
+use Rattle.std.proofs.Common.{Ok, Err, Some, None}
 use mathlib.Core.Path.{◌≡◌, sym, ap, ◌∙◌}
 use mathlib.Core.List.{List, ◌++◌}
 use Prim.Native.Nat.{ℕ, ◌+◌, ◌-◌, ◌≤◌}
@@ -7,9 +8,7 @@ use lib.ListN.{length, take, drop, length-drop, length-take, take-append-drop}
 use lib.Seq.{get_or-drop, take_all, drop-append_seam}
 use Rattle.records.specs.Bytes.{byte_at}
 use Rattle.records.specs.Kinds.{body_of}
-use Rattle.records.specs.Records.{event_of, record_at}
-use Rattle.records.specs.declared.Found.{Found}
-use Rattle.records.specs.declared.Found.TheVariants.{Whole, Refused, End}
+use Rattle.records.specs.Records.{event_of, record_at, Found}
 use Rattle.records.proofs.Laws.{at-end, at-unknown, at_cut, at-whole, advances}
 use Rattle.records.proofs.Parts.{Stands, none, unknown, cut, whole, stands, body_most, event-drop, front-unknown, front-whole}
 use Rattle.pieces.specs.Held.{longest_record}
@@ -77,7 +76,7 @@ behind s t at h =
     ∙ ap (λ (x : List ℕ). moved (length s) (record_at x (at - length s))) (drop-append_seam s t)
 
 -- a record ends within the bytes it is read from
-pub end-within : (s : List ℕ) (at : ℕ) (x : Found) → x ≡ record_at s at → end_of x ≤ length s
-end-within s at (Whole e c) h = (advances s at e c (sym h)).1
-end-within s at (Refused r) h = omega arith
-end-within s at End h = omega arith
+pub end_within : (s : List ℕ) (at : ℕ) (x : Found) → x ≡ record_at s at → end_of x ≤ length s
+end_within s at (Ok (Some (e, c))) h = (advances s at e c (sym h)).1
+end_within s at (Err r) h = omega arith
+end_within s at (Ok None) h = omega arith

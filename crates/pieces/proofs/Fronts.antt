@@ -1,4 +1,5 @@
 -- The bytes of a piece are the front of those of the piece and more: what is seen in them is seen there too, but for their end.
+use Rattle.std.proofs.Common.{Ok, Err, Some, None}
 use mathlib.Core.Path.{◌≡◌, refl, sym, ◌∙◌}
 use mathlib.Core.Bool.{Bool, true, false}
 use mathlib.Core.List.{List, [], ◌++◌, append_assoc, append-nil}
@@ -9,10 +10,8 @@ use lib.Seq.{take_all, take-append-le}
 use borrow.Author.Tests.{lt-ltb, ltb-true, ltb-false}
 use Rattle.rules.specs.declared.Event.{Event}
 use Rattle.rules.specs.declared.Refusal.{Refusal}
-use Rattle.records.specs.Records.{record_at}
+use Rattle.records.specs.Records.{record_at, Found}
 use Rattle.records.specs.declared.Cursor.{Cursor}
-use Rattle.records.specs.declared.Found.{Found}
-use Rattle.records.specs.declared.Found.TheVariants.{Whole, Refused, End}
 use Rattle.records.proofs.Laws.{at-end, at-unknown, at_cut, at-whole}
 use Rattle.records.proofs.Parts.{Stands, none, unknown, cut, whole, stands, front-unknown, front-whole}
 use Rattle.pieces.specs.Limit.{ending, seen_at}
@@ -23,17 +22,17 @@ use Rattle.pieces.proofs.Lists.{take-two}
 
 -- bytes of which others are the front: what is seen there, but for the end, is seen in them too
 pub record Front (beyond last : Bool) (s : List ℕ) (beyond' : Bool) (s' : List ℕ) : Type 0 where
-  pub whole : (at : ℕ) (v : Event) (c : Cursor) → seen_at beyond last s at ≡ Whole v c → seen_at beyond' true s' at ≡ Whole v c
-  pub refused : (at : ℕ) (r : Refusal) → seen_at beyond last s at ≡ Refused r → seen_at beyond' true s' at ≡ Refused r
+  pub whole : (at : ℕ) (v : Event) (c : Cursor) → seen_at beyond last s at ≡ Ok (Some (v, c)) → seen_at beyond' true s' at ≡ Ok (Some (v, c))
+  pub refused : (at : ℕ) (r : Refusal) → seen_at beyond last s at ≡ Err r → seen_at beyond' true s' at ≡ Err r
 
 -- beyond the limit it does not matter which bytes are the last
 any_last : (last : Bool) (x : Found) → ending true last x ≡ ending true true x
-any_last last (Whole v c) = refl
-any_last last End = refl
-any_last last (Refused r) = refl
+any_last last (Ok (Some (v, c))) = refl
+any_last last (Ok None) = refl
+any_last last (Err r) = refl
 
 -- what is seen before more bytes, but for the end
-module _ (s t : List ℕ) (at : ℕ) (y : Found) (beyond : Bool) (some : y ≡ End → ⊥) (e : seen_at false false s at ≡ y) where
+module _ (s t : List ℕ) (at : ℕ) (y : Found) (beyond : Bool) (some : y ≡ Ok None → ⊥) (e : seen_at false false s at ≡ y) where
   kept : Stands s at → seen_at beyond true (s ++ t) at ≡ y
   kept (none h) = absurd (some (sym e ∙ rw (at-end s at h)))
   kept (cut h k l) = absurd (some (sym e ∙ rw (at_cut s at h k l)))
@@ -69,8 +68,8 @@ module _ (b : Begun) (piece more : List ℕ) where
       let i : inside b piece ≡ j = take_all (allowed b) j h in
       let o : inside b (piece ++ more) ≡ j ++ t = rw one (rw (take_all (allowed b) j h) at (take-two (allowed b) j more)) in
       record {
-        whole = λ at v c e. rw o (kept j t at (Whole v c) (beyond b (piece ++ more)) (λ z. let q : ◌≡◌ {A = ℕ} 0 1 = cc in omega arith) (rw i at e) (stands j at));
-        refused = λ at r e. rw o (kept j t at (Refused r) (beyond b (piece ++ more)) (λ z. let q : ◌≡◌ {A = ℕ} 0 1 = cc in omega arith) (rw i at e) (stands j at));
+        whole = λ at v c e. rw o (kept j t at (Ok (Some (v, c))) (beyond b (piece ++ more)) (λ z. cc) (rw i at e) (stands j at));
+        refused = λ at r e. rw o (kept j t at (Err r) (beyond b (piece ++ more)) (λ z. cc) (rw i at e) (stands j at));
       }
 
   by-limit : (x last : Bool) → beyond b piece ≡ x → (last ≡ true → more ≡ [])

@@ -1,67 +1,57 @@
--- Bytes put one by one over seven zeros are at last these bytes, held.
-use mathlib.Core.Path.{◌≡◌, refl, sym, ◌∙◌}
-use mathlib.Core.List.{List, ◌++◌}
-use Prim.Native.Nat.{ℕ, zero, suc, ◌+◌, ◌-◌, ◌<◌, ◌≤◌, min}
-use native.Mathlib.Numerals.{add-one}
+-- The first seven bytes of two parts from a place on, put over seven zeros, are these bytes, held.
+use mathlib.Core.Path.{◌≡◌, refl, ap}
+use mathlib.Core.List.{List, ◌++◌, append_assoc}
+use Prim.Native.Nat.{ℕ, ◌+◌, ◌-◌, min}
 use native.Mathlib.Omega.{arith}
-use lib.ListN.{length, take, drop, get_or, set, replicate, length-take, length-append}
-use lib.Seq.{take-suc, drop-cons, set_at, append_snoc, length-take-le, take-append_seam}
+use lib.ListN.{length, take, drop, replicate, length-take, length-append}
+use lib.Seq.{take-append_seam, length-take-le, take_at, drop_at}
+use borrow.Rule.Slice.PartMut.{put_mid}
+use Rattle.std.proofs.lemmas.List.{take_min, drop_min, drop-replicate}
 use Rattle.pieces.specs.Held.{longest_record, bytes_of, held_of}
 use Rattle.pieces.specs.declared.Held.{Held}
-use Rattle.pieces.proofs.Lists.{take_min}
+use Rattle.pieces.proofs.Lists.{take-two, drop-two}
 
-abbrev zero_byte : ℕ
-zero_byte = 0
+-- the first n of two parts put over n zeros
+module _ (n : ℕ) (f b : List ℕ) (seam more : ℕ) (s : seam ≡ min (length f) n) (m : more ≡ min (length b) (n - seam)) where
+  put_over : (zeros : List ℕ) → zeros ≡ replicate n 0
+      → put_mid seam (seam + more - seam) (take seam f ++ drop seam zeros) (take (seam + more - seam) b)
+      ≡ take n (f ++ b) ++ replicate (n - length (f ++ b)) 0
+  put_over zeros z =
+      let k : length (take seam f) ≡ seam = length-take-le seam f (omega (arith, s)) in
+      let x : take seam f ≡ take n f = let e : seam ≡ min n (length f) = omega (arith, s) in rw e (take_min n f) in
+      let y : take (seam + more - seam) b ≡ take (n - length f) b =
+      let e : seam + more - seam ≡ min (n - length f) (length b) = omega (arith, s, m) in rw e (take_min (n - length f) b) in
+      let l : n - seam - (seam + more - seam) ≡ n - length (f ++ b) = omega (arith, s, m, length-append f b) in
+      rw (
+        take_at (take seam f) (drop seam zeros) seam k,
+        drop_at (take seam f) (drop seam zeros) seam k,
+        z,
+        drop-replicate {X = ℕ} seam n 0,
+        drop-replicate {X = ℕ} (seam + more - seam) (n - seam) 0,
+        l,
+        x,
+        y,
+        take-two n f b,
+        append_assoc (take n f) (take (n - length f) b) (replicate (n - length (f ++ b)) 0),
+      )
 
-abbrev pub zeros : List ℕ
-zeros = replicate longest_record zero_byte
-
--- so many of the bytes put over the zeros
-unfoldable pub put : List ℕ → ℕ → List ℕ
-put xs n = take n xs ++ drop n zeros
-
-pub put-none : (xs : List ℕ) → zeros ≡ put xs 0
-unfolding put
-put-none xs = refl
-
--- one more byte
-pub put-more : (xs : List ℕ) (i : ℕ) → i < longest_record → i < length xs → set (put xs i) i (get_or xs i 0) ≡ put xs (i + 1)
-unfolding put
-put-more xs i h k =
-    rw (
-      add-one,
-      drop-cons zeros i 0 h,
-      set_at (take i xs) (get_or zeros i 0) (drop (suc i) zeros) (get_or xs i 0) i (length-take-le i xs (omega arith)),
-      take-suc xs i 0 k,
-      append_snoc (take i xs) (get_or xs i 0) (drop (suc i) zeros),
-    )
-
-drop-replicate : (m n : ℕ) → drop m (replicate n zero_byte) ≡ replicate (n - m) zero_byte
-drop-replicate zero n = let e : n - 0 ≡ n = omega arith in rw e
-drop-replicate (suc m) zero = let e : 0 - suc m ≡ 0 = omega arith in rw e
-drop-replicate (suc m) (suc n) = let e : suc n - suc m ≡ n - m = omega arith in rw e (drop-replicate m n)
-
--- as many as there are, up to seven
-pub put_all : (xs : List ℕ) (n : ℕ) → n ≡ min longest_record (length xs) → (bytes : List ℕ) → bytes ≡ put xs n
-    → ◌≡◌ {A = Held} (record { bytes = bytes; count = n }) (held_of xs)
-unfolding held_of put
-put_all xs n e bytes b =
-    let m : longest_record - length xs ≡ longest_record - n = omega (arith, e) in
-    let d : drop n zeros ≡ replicate (longest_record - length xs) zero_byte =
-    rw m (drop-replicate n longest_record) in
-    let t : take n xs ≡ take longest_record xs = rw e (take_min longest_record xs) in
-    let c : n ≡ length (take longest_record xs) = e ∙ sym (length-take longest_record xs) in
-    rw (b, t, d, ← c)
+module _ (front back : List ℕ) (at : ℕ) where
+  pub first_held : (i j seam more : ℕ) (x y : List ℕ) → i ≡ min at (length front) → j ≡ min (at - length front) (length back)
+      → seam ≡ min (length (drop i front)) 7 → more ≡ min (length (drop j back)) (7 - seam)
+      → x ≡ take seam (drop i front) → y ≡ take (seam + more - seam) (drop j back)
+      → ◌≡◌ {A = Held} (record { bytes = put_mid seam (seam + more - seam) (x ++ drop seam (replicate longest_record 0)) y; count = seam + more }) (held_of (drop at (front ++ back)))
+  unfolding held_of
+  first_held i j seam more x y ei ej es em ex ey =
+      let f = drop i front in
+      let b = drop j back in
+      let ef : f ≡ drop at front = rw ei (drop_min at front) in
+      let eb : b ≡ drop (at - length front) back = rw ej (drop_min (at - length front) back) in
+      let d : drop at (front ++ back) ≡ f ++ b = rw (drop-two at front back, ef, eb) in
+      let n : seam + more ≡ length (take longest_record (f ++ b)) = omega (arith, es, em, length-take longest_record (f ++ b), length-append f b) in
+      let z = put_over longest_record f b seam more es em (replicate longest_record 0) refl in
+      rw (d, ex, ey, ← n) (ap (λ (s : List ℕ). record { bytes = s; count = seam + more }) z)
 
 -- what is held are the first seven
 pub held_bytes : (xs : List ℕ) → bytes_of (held_of xs) ≡ take longest_record xs
 unfolding held_of
-held_bytes xs = take-append_seam (take longest_record xs) (replicate (longest_record - length xs) zero_byte)
-
-pub held-within : (xs : List ℕ) (h : Held) → h ≡ held_of xs → h.count ≤ length h.bytes
-unfolding held_of
-held-within xs h e = rw e (omega (arith, length-append (take longest_record xs) (replicate (longest_record - length xs) zero_byte)))
-
-pub held-most : (xs : List ℕ) (h : Held) → h ≡ held_of xs → h.count ≤ longest_record
-unfolding held_of
-held-most xs h e = rw e (omega (arith, length-take longest_record xs))
+held_bytes xs = take-append_seam (take longest_record xs) (replicate (longest_record - length xs) 0)

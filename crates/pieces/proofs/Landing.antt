@@ -1,5 +1,6 @@
 -- A landing that does not end the run uses bytes up and counts them: where a line did not fit, those before it; else all of the
 -- piece. So the end comes nearer with each.
+use Rattle.std.proofs.Common.{Ok, None}
 use mathlib.Core.Path.{◌≡◌, refl, sym}
 use mathlib.Core.Bool.{Bool, true, false, cond, false≢true}
 use mathlib.Core.List.{List}
@@ -8,7 +9,6 @@ use native.Mathlib.Omega.{arith}
 use lib.Dec.{lit≤}
 use lib.ListN.{length, length-append, length-take}
 use borrow.Author.Tests.{ltb-false}
-use Rattle.records.specs.declared.Found.TheVariants.{End}
 use Rattle.records.proofs.Parts.{stands}
 use Rattle.pieces.specs.Limit.{limit, seen_at}
 use Rattle.pieces.specs.Held.{bytes_of, held_of}
@@ -27,7 +27,7 @@ module _ (b : Begun) (piece : List ℕ) (few : Few b) where
   some = length-take (allowed b) (joined b piece)
 
   -- what is held where no record is left
-  rest : (last : Bool) (at : ℕ) → at ≤ length (inside b piece) → seen_at (beyond b piece) last (inside b piece) at ≡ End
+  rest : (last : Bool) (at : ℕ) → at ≤ length (inside b piece) → seen_at (beyond b piece) last (inside b piece) at ≡ Ok None
       → (length (joined b piece) ≤ allowed b) × (length (joined b piece) - at ≤ 7)
   rest last at n e =
       let none = none_left (beyond b piece) last (inside b piece) at (stands (inside b piece) at) e in
@@ -35,7 +35,7 @@ module _ (b : Begun) (piece : List ℕ) (few : Few b) where
       (short, omega (arith, none.1, short, some))
 
   pub uses : (h : How) (last : Bool) (at : ℕ) → Offers piece last → at ≤ length (inside b piece) → (h ≡ Full → 0 < at)
-      → (h ≡ Spent → seen_at (beyond b piece) last (inside b piece) at ≡ End)
+      → (h ≡ Spent → seen_at (beyond b piece) last (inside b piece) at ≡ Ok None)
       → let k = landed b piece last at h in k.begun.over ≡ false → held_count k.begun < held_count b + 2 * k.taken
   unfolding landed
   uses Full last at o n f s e = let k = f refl in let c = paused-count b piece at few in omega (arith, k, c)
@@ -46,7 +46,7 @@ module _ (b : Begun) (piece : List ℕ) (few : Few b) where
   uses Stopped last at o n f s e = absurd (false≢true (sym e))
 
   pub counts : (h : How) (last : Bool) (at : ℕ) → at ≤ length (inside b piece)
-      → (h ≡ Spent → seen_at (beyond b piece) last (inside b piece) at ≡ End) → b.at + held_count b ≤ limit
+      → (h ≡ Spent → seen_at (beyond b piece) last (inside b piece) at ≡ Ok None) → b.at + held_count b ≤ limit
       → let k = landed b piece last at h in k.begun.over ≡ false
       → (k.begun.at + held_count k.begun ≡ b.at + held_count b + k.taken) × (k.begun.at + held_count k.begun ≤ limit)
   unfolding landed
@@ -90,7 +90,7 @@ not_over b h = rw h
 
 -- what a landing does to both
 module _ (b : Begun) (piece : List ℕ) (last : Bool) (at : ℕ) (h : How) (sound : Sound b) (going : b.over ≡ false)
-    (within : at ≤ length (inside b piece)) (spent : h ≡ Spent → seen_at (beyond b piece) last (inside b piece) at ≡ End) where
+    (within : at ≤ length (inside b piece)) (spent : h ≡ Spent → seen_at (beyond b piece) last (inside b piece) at ≡ Ok None) where
   pub landed-sound : Sound (landed b piece last at h).begun
   landed-sound =
       record {

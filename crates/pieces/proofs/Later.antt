@@ -1,24 +1,15 @@
 -- The bytes still to come from a later place: the limit is as far, and those inside it are what is left of the same bytes.
 use mathlib.Core.Path.{◌≡◌, refl, sym}
 use mathlib.Core.Bool.{Bool, true, false}
-use mathlib.Core.List.{List, [], ◌∷◌}
-use Prim.Native.Nat.{ℕ, zero, suc, ◌+◌, ◌-◌, ◌≤◌}
+use mathlib.Core.List.{List}
+use Prim.Native.Nat.{ℕ, ◌+◌, ◌-◌, ◌≤◌}
 use native.Mathlib.Omega.{arith}
 use lib.Dec.{ltb}
-use lib.ListN.{length, take, drop, length-drop}
+use lib.ListN.{length, drop, length-drop}
 use borrow.Author.Tests.{lt-ltb, le-ltb, ltb-true, ltb-false}
 use Rattle.pieces.specs.Begun.{joined, allowed, inside, beyond}
 use Rattle.pieces.specs.declared.Begun.{Begun}
-
-drop-take : (n a : ℕ) (s : List ℕ) → drop n (take a s) ≡ take (a - n) (drop n s)
-drop-take zero a s = let e : a - 0 ≡ a = omega arith in rw e
-drop-take (suc n) zero s = let e : 0 - suc n ≡ 0 = omega arith in rw e
-drop-take (suc n) (suc a) [] = nothing (suc a - suc n)
-  where
-    nothing : (m : ℕ) → ◌≡◌ {A = List ℕ} [] (take m [])
-    nothing zero = refl
-    nothing (suc m) = refl
-drop-take (suc n) (suc a) (x ∷ s) = let e : suc a - suc n ≡ a - n = omega arith in rw e (drop-take n a s)
+use Rattle.pieces.proofs.Lists.{drop-take}
 
 -- the limit, counted from a later place
 later : (a n m : ℕ) → n ≤ a → n ≤ m → ltb (a - n) (m - n) ≡ ltb a m

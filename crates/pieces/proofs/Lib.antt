@@ -2,7 +2,7 @@ pub mod Lists
 pub mod Across
 pub mod Gathered
 pub mod Within
-pub mod Seen
+pub mod SeenFrom
 pub mod Shifted
 pub mod Fronts
 pub mod States

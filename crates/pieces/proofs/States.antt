@@ -1,34 +1,19 @@
 -- The state that a feed leaves: its bytes, with those still to come after them, are the bytes from the place reached on; and how
 -- many they are.
-use mathlib.Core.Path.{◌≡◌, refl, sym, ap, ◌∙◌}
+use mathlib.Core.Path.{◌≡◌, sym, ◌∙◌}
 use mathlib.Core.Bool.{Bool, true, false}
 use mathlib.Core.List.{List, ◌++◌, append_assoc}
-use Prim.Native.Nat.{ℕ, ◌+◌, ◌-◌, ◌≤◌}
+use Prim.Native.Nat.{ℕ, ◌-◌, ◌≤◌}
 use native.Mathlib.Omega.{arith}
-use lib.Dec.{leb}
 use lib.ListN.{length, drop, length-append, length-drop, length-take, drop_of_length-le}
-use lib.Seq.{take_all, drop-append-le, drop-append-add}
-use borrow.Author.Tests.{leb-true, leb-false}
+use lib.Seq.{take_all, drop-append-le}
 use Rattle.pieces.specs.Held.{longest_record, bytes_of, held_of}
 use Rattle.pieces.specs.Begun.{joined, Few, held_count, paused, holding, landed}
 use Rattle.pieces.specs.declared.Begun.{Begun}
 use Rattle.pieces.specs.declared.How.{How}
 use Rattle.pieces.specs.declared.How.TheVariants.{Full, Spent, Stopped}
+use Rattle.pieces.proofs.Lists.{drop-two}
 use Rattle.pieces.proofs.Gathered.{held_bytes}
-
--- what is left of two lists
-drop-two : (n : ℕ) (xs ys : List ℕ) → drop n (xs ++ ys) ≡ drop n xs ++ drop (n - length xs) ys
-drop-two n xs ys = by (leb n (length xs)) refl
-  where
-    by : (b : Bool) → leb n (length xs) ≡ b → drop n (xs ++ ys) ≡ drop n xs ++ drop (n - length xs) ys
-    by true h =
-        let k = leb-true n (length xs) h in
-        let m : n - length xs ≡ 0 = omega (arith, k) in
-        rw m (drop-append-le n xs ys k)
-    by false h =
-        let k = leb-false n (length xs) h in
-        let m : n ≡ length xs + (n - length xs) = omega (arith, k) in
-        rw (drop_of_length-le xs {i = n} (omega (arith, k))) (ap (λ (i : ℕ). drop i (xs ++ ys)) m ∙ drop-append-add xs ys (n - length xs))
 
 -- a few bytes are held whole
 pub held-few : (xs : List ℕ) → length xs ≤ longest_record → bytes_of (held_of xs) ≡ xs

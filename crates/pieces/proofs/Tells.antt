@@ -1,4 +1,5 @@
 -- Which records are to be told of, by the tests that come before them; and what it says of the bytes that none is left.
+use Rattle.std.proofs.Common.{Ok, None}
 use mathlib.Core.Path.{◌≡◌, refl}
 use mathlib.Core.Bool.{Bool, true, false, ◌||◌}
 use mathlib.Core.List.{List}
@@ -9,7 +10,6 @@ use borrow.Author.Tests.{eq-eqb, ne_eqb}
 use Rattle.rules.specs.declared.Refusal.TheVariants.{Store}
 use Rattle.records.specs.Bytes.{byte_at}
 use Rattle.records.specs.Recordings.{end, refusal}
-use Rattle.records.specs.declared.Found.TheVariants.{End}
 use Rattle.records.proofs.Laws.{at-end, at-unknown, at_cut, at-whole}
 use Rattle.records.proofs.Parts.{Stands, none, unknown, cut, whole, body_most}
 use Rattle.pieces.specs.Limit.{seen_at}
@@ -39,10 +39,10 @@ or_going true y h = refl
 or_going false y h = h
 
 -- where no record is left, no bytes lie beyond the limit, and what is left is shorter than a record
-pub none_left : (beyond last : Bool) (s : List ℕ) (at : ℕ) → Stands s at → seen_at beyond last s at ≡ End → (beyond ≡ false) × (length s - at ≤ 6)
-none_left true last s at (none h) e = let x = rw (at-end s at h) at e in let z : ◌≡◌ {A = ℕ} 0 1 = cc in absurd (omega arith)
+pub none_left : (beyond last : Bool) (s : List ℕ) (at : ℕ) → Stands s at → seen_at beyond last s at ≡ Ok None → (beyond ≡ false) × (length s - at ≤ 6)
+none_left true last s at (none h) e = let x = rw (at-end s at h) at e in cc
 none_left false last s at (none h) e = (refl, omega (arith, h))
-none_left true last s at (cut h k m) e = let x = rw (at_cut s at h k m) at e in let z : ◌≡◌ {A = ℕ} 0 1 = cc in absurd (omega arith)
+none_left true last s at (cut h k m) e = let x = rw (at_cut s at h k m) at e in cc
 none_left false last s at (cut h k m) e = (refl, omega (arith, m, body_most (byte_at s at)))
-none_left beyond last s at (unknown h k) e = let x = rw (at-unknown s at h k) at e in let z : ◌≡◌ {A = ℕ} 0 1 = cc in absurd (omega arith)
-none_left beyond last s at (whole h k m) e = let x = rw (at-whole s at h k m) at e in let z : ◌≡◌ {A = ℕ} 0 1 = cc in absurd (omega arith)
+none_left beyond last s at (unknown h k) e = let x = rw (at-unknown s at h k) at e in cc
+none_left beyond last s at (whole h k m) e = let x = rw (at-whole s at h k m) at e in cc

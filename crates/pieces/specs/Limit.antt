@@ -1,11 +1,9 @@
 -- The limit of a recording, and how its records end there (request E4).
-use Rattle.std.specs.Prelude.{ℕ, ◌≡◌, Bool, true, cond, List, length, take, ltb, eqb}
+use Rattle.std.specs.Prelude.{ℕ, ◌≡◌, Bool, true, cond, List, length, take, ltb, eqb, Ok, Err, Some, None}
 use Rattle.rules.specs.Paper.{number}
 use Rattle.rules.specs.declared.Refusal.TheVariants.{Long}
-use Rattle.records.specs.Records.{record_at}
+use Rattle.records.specs.Records.{record_at, Found}
 use Rattle.records.specs.Recordings.{Records, event, end, refusal, before, records_from}
-use Rattle.records.specs.declared.Found.{Found}
-use Rattle.records.specs.declared.Found.TheVariants.{Whole, Refused, End}
 
 -- 16 MiB
 abbrev pub limit : ℕ
@@ -14,9 +12,9 @@ limit = 16777216
 -- what stands where the bytes inside the limit hold no whole record. Where bytes lie beyond the limit, 13 is given in place of
 -- the end and of 12; and 12 only if these bytes are the last
 abbrev pub ending : Bool → Bool → Found → Found
-ending beyond last (Whole e next) = Whole e next
-ending beyond last End = cond beyond (Refused Long) End
-ending beyond last (Refused r) = cond (eqb (number r) 12) (cond beyond (Refused Long) (cond last (Refused r) End)) (Refused r)
+ending beyond last (Ok (Some (e, next))) = Ok (Some (e, next))
+ending beyond last (Ok None) = cond beyond (Err Long) (Ok None)
+ending beyond last (Err r) = cond (eqb (number r) 12) (cond beyond (Err Long) (cond last (Err r) (Ok None))) (Err r)
 
 -- the record at a place of bytes inside the limit, and the records from there on
 abbrev pub seen_at : Bool → Bool → List ℕ → ℕ → Found
@@ -24,8 +22,8 @@ seen_at beyond last s at = ending beyond last (record_at s at)
 
 abbrev pub ended : Bool → Bool → Records → Records
 ended beyond last (event e next rest) = event e next (ended beyond last rest)
-ended beyond last end = before (ending beyond last End) (λ at. end)
-ended beyond last (refusal r) = before (ending beyond last (Refused r)) (λ at. end)
+ended beyond last end = before (ending beyond last (Ok None)) (λ at. end)
+ended beyond last (refusal r) = before (ending beyond last (Err r)) (λ at. end)
 
 abbrev pub seen_from : Bool → Bool → List ℕ → ℕ → Records
 seen_from beyond last s at = ended beyond last (records_from s at)

@@ -2,20 +2,18 @@
 
 #![tactic(auto)]
 
-ghost use Rattle.std.specs.Prelude.{◌≡◌, [], ◌++◌, ◌+◌, ◌-◌, ◌<◌, min, length, drop};
-ghost use Rattle.records.specs.Bytes.{byte_at};
+ghost use Rattle.std.specs.Prelude.{◌≡◌, ◌++◌, ◌+◌, ◌<◌, length, drop};
 ghost use Rattle.records.specs.Records.{record_at};
-ghost use Rattle.records.specs.declared.Found.TheVariants.{Refused};
-ghost use Rattle.pieces.specs.Limit.{ending, seen_at, limit};
+ghost use Rattle.pieces.specs.Limit.{ending, seen_at};
 ghost use Rattle.pieces.specs.Held.{bytes_of, held_of};
-ghost use Rattle.pieces.specs.Begun.{fresh as fresh_of, paused as paused_of, holding as holding_of, closed as closed_of, landed};
-ghost use Rattle.pieces.specs.Windows.{window_of};
+ghost use Rattle.pieces.specs.Begun.{fresh as fresh_of, inside as inside_of, beyond as beyond_of, landed};
+ghost use Rattle.pieces.specs.Windows.{front as front_of, back as back_of};
 ghost use Rattle.pieces.specs.Moved.{moved as moved_of, end_of};
 
 use records::{Cursor, Found};
 use rules::Refusal;
 
-// A few bytes by value: the first `count` of them.
+// A few bytes by value: the first `count` of them. The count may be any number, since a caller in C lends it.
 #[derive(Clone, Copy)]
 pub struct Held {
     pub bytes: [u8; 7],
@@ -48,82 +46,44 @@ pub enum How {
     Stopped,
 }
 
-// The bytes inside the limit: so many of those held, and so many of the piece; and whether there are others.
+// The bytes inside the limit, those held and those of the piece read as one; whether there are others, and whether they are the last.
 #[derive(Clone, Copy)]
-pub struct Window {
-    pub front: usize,
-    pub back: usize,
+pub struct Seen<'a> {
+    pub front: &'a [u8],
+    pub back: &'a [u8],
     pub beyond: bool,
+    pub last: bool,
 }
 
 const LIMIT: usize = 16_777_216;
 
-fn least(a: usize, b: usize) -> usize
-    ensures { result ≡ min a b }
-{
-    if a < b { a } else { b }
-}
+const NONE: Held = Held {
+    bytes: [0; 7],
+    count: 0,
+};
 
-// what is left of a number, or 0
-fn less(a: usize, b: usize) -> usize
-    ensures { result ≡ a - b }
-{
-    if b < a { a - b } else { 0 }
-}
-
-fn size(s: &[u8]) -> usize
-    ensures { result ≡ length s.now }
-{
-    s.len()
-}
-
-// a byte of two lent parts, read as one
-fn byte_of(front: &[u8], back: &[u8], at: usize) -> u8
-    requires { at < length (front.now ++ back.now) }
-    ensures { result ≡ byte_at (front.now ++ back.now) at }
-{
-    let n = front.len();
-    if at < n { front[at] } else { back[at - n] }
-}
-
-fn none() -> Held
-    ensures { result ≡ held_of [] }
-{
-    Held {
-        bytes: [0; 7],
-        count: 0,
+impl Held {
+    // the bytes held
+    fn bytes(&self) -> &[u8]
+        ensures { result.now ≡ bytes_of self.now }
+    {
+        &self.bytes[..self.count.min(self.bytes.len())]
     }
-}
 
-// the first seven bytes of two lent parts from a place on
-fn gather(front: &[u8], back: &[u8], at: usize) -> Held
-    ensures { result ≡ held_of (drop at (front.now ++ back.now)) }
-{
-    let count = least(7, less(front.len() + back.len(), at));
-    let mut bytes = [0u8; 7];
-    let mut i = 0;
-    while i < count {
-        bytes[i] = byte_of(front, back, at + i);
-        i += 1;
+    // the first seven bytes of two lent parts from a place on
+    fn first(front: &[u8], back: &[u8], at: usize) -> Held
+        ensures { result ≡ held_of (drop at (front.now ++ back.now)) }
+    {
+        let left = at.saturating_sub(front.len());
+        let front = &front[at.min(front.len())..];
+        let back = &back[left.min(back.len())..];
+        let mut bytes = [0; 7];
+        let seam = front.len().min(bytes.len());
+        let count = seam + back.len().min(bytes.len() - seam);
+        bytes[..seam].copy_from_slice(&front[..seam]);
+        bytes[seam..count].copy_from_slice(&back[..count - seam]);
+        Held { bytes, count }
     }
-    Held { bytes, count }
-}
-
-// how many bytes are held
-fn held_count(held: Held) -> usize
-    ensures { result ≡ length (bytes_of held) }
-{
-    let bytes = held.bytes;
-    least(held.count, size(&bytes))
-}
-
-// the first seven bytes of those held and a piece after them, from a place on
-fn hold(held: Held, piece: &[u8], at: usize) -> Held
-    ensures { result ≡ held_of (drop at (bytes_of held ++ piece.now)) }
-{
-    let bytes = held.bytes;
-    let count = least(held.count, size(&bytes));
-    gather(&bytes[..count], piece, at)
 }
 
 // what was found, so many bytes further on
@@ -132,159 +92,105 @@ fn moved(found: Found, by: usize) -> Found
     ensures { result ≡ moved_of by found }
 {
     match found {
-        Found::Whole(event, next) => Found::Whole(event, Cursor { at: by + next.at }),
-        Found::Refused(refusal) => Found::Refused(refusal),
-        Found::End => Found::End,
+        Ok(Some((event, next))) => Ok(Some((event, Cursor { at: by + next.at }))),
+        other => other,
     }
 }
 
-// the record at a place of the front: its bytes may go on in the back
-fn read_across(front: &[u8], back: &[u8], at: usize) -> Found
-    requires { at < length front.now }
-    ensures { result ≡ record_at (front.now ++ back.now) at }
-{
-    let few = gather(front, back, at);
-    let bytes = few.bytes;
-    let count = few.count;
-    let cursor = Cursor { at: 0 };
-    moved(cursor.read(&bytes[..count]), at)
-}
+impl<'a> Seen<'a> {
+    // the record at a place of the front: its bytes may go on in the back
+    #[tactic(auto, using(crate::proofs::Across::across, crate::proofs::Across::end_within, crate::proofs::Gathered::held_bytes))]
+    fn read_across(self, at: usize) -> Found
+        requires { at < length self.front.now }
+        ensures { result ≡ record_at (self.entry.front.now ++ self.entry.back.now) at }
+    {
+        let few = Held::first(self.front, self.back, at);
+        moved(Cursor { at: 0 }.read(few.bytes()), at)
+    }
 
-// the record at a place of two lent parts, read as one
-fn read_joined(front: &[u8], back: &[u8], at: usize) -> Found
-    ensures { result ≡ record_at (front.now ++ back.now) at }
-{
-    let n = front.len();
-    if at < n {
-        return read_across(front, back, at);
+    // the record at a place of both parts
+    #[tactic(auto, using(crate::proofs::Across::behind, crate::proofs::Across::end_within))]
+    fn read_joined(self, at: usize) -> Found
+        ensures { result ≡ record_at (self.entry.front.now ++ self.entry.back.now) at }
+    {
+        let n = self.front.len();
+        if at < n {
+            return self.read_across(at);
+        }
+        moved(Cursor { at: at - n }.read(self.back), n)
     }
-    let cursor = Cursor { at: at - n };
-    moved(cursor.read(back), n)
-}
 
-// 12 becomes 13 where bytes lie beyond the limit, stays among the last bytes, and else waits for more; other refusals stay
-fn end_refused(refusal: Refusal, beyond: bool, last: bool) -> Found
-    ensures { result ≡ ending beyond last (Refused refusal) }
-{
-    if rules::number(refusal) != 12 {
-        return Found::Refused(refusal);
-    }
-    if beyond {
-        return Found::Refused(Refusal::Long);
-    }
-    if last {
-        return Found::Refused(refusal);
-    }
-    Found::End
-}
-
-// what was found, as it stands at the end of the bytes inside the limit
-fn end(found: Found, beyond: bool, last: bool) -> Found
-    ensures { result ≡ ending beyond last found }
-{
-    match found {
-        Found::Whole(event, next) => Found::Whole(event, next),
-        Found::Refused(refusal) => end_refused(refusal, beyond, last),
-        Found::End => {
-            if beyond {
-                return Found::Refused(Refusal::Long);
-            }
-            Found::End
+    // What was found, as it stands at the end of these bytes: the end and 12 become 13 where bytes lie beyond the limit; else 12 stays
+    // among the last bytes, and waits for more among others.
+    fn end(self, found: Found) -> Found
+        ensures { result ≡ ending self.entry.beyond self.entry.last found }
+    {
+        match found {
+            Ok(None) | Err(Refusal::Cut) if self.beyond => Err(Refusal::Long),
+            Err(Refusal::Cut) if !self.last => Ok(None),
+            other => other,
         }
     }
-}
 
-// What stands at a place of the bytes inside the limit, those held and those of the piece read as one.
-pub fn read(front: &[u8], back: &[u8], beyond: bool, last: bool, at: usize) -> Found
-    ensures { result ≡ seen_at beyond last (front.now ++ back.now) at }
-{
-    end(read_joined(front, back, at), beyond, last)
+    // What stands at a place.
+    pub fn read(self, at: usize) -> Found
+        ensures { result ≡ seen_at self.entry.beyond self.entry.last (self.entry.front.now ++ self.entry.back.now) at }
+    {
+        self.end(self.read_joined(at))
+    }
 }
 
 // Before the first byte of a recording.
+#[tactic(auto, unfolding(crate::specs::Held::held_of))]
 pub fn fresh() -> Begun
     ensures { result ≡ fresh_of }
 {
     Begun {
-        held: none(),
+        held: NONE,
         at: 0,
         over: false,
     }
 }
 
 // The bytes inside the limit, of those held and of a piece.
-pub fn inside(begun: Begun, piece: &[u8]) -> Window
-    ensures { result ≡ window_of begun piece.now }
+pub fn inside<'a>(begun: &'a Begun, piece: &'a [u8], last: bool) -> Seen<'a>
+    ensures parts { (result.front.now ≡ front_of begun.now) × (result.back.now ≡ back_of begun.now piece.now) }
+    ensures joined { result.front.now ++ result.back.now ≡ inside_of begun.now piece.now }
+    ensures ends { (result.beyond ≡ beyond_of begun.now piece.now) × (result.last ≡ last) }
 {
-    let count = held_count(begun.held);
-    let allowed = less(LIMIT, begun.at);
-    let front = least(count, allowed);
-    let back = least(piece.len(), allowed - front);
-    Window {
+    let held = begun.held.bytes();
+    let allowed = LIMIT.saturating_sub(begun.at);
+    let front = &held[..held.len().min(allowed)];
+    let back = &piece[..piece.len().min(allowed - front.len())];
+    Seen {
         front,
         back,
-        beyond: front < count || back < piece.len(),
+        beyond: front.len() < held.len() || back.len() < piece.len(),
+        last,
     }
 }
 
-// so many bytes on from a place, no further than the limit
-fn onward(from: usize, at: usize) -> usize
-    ensures { result ≡ from + min at (limit - from) }
-{
-    from + least(at, less(LIMIT, from))
-}
-
-fn paused(begun: Begun, at: usize) -> Reached
-    ensures { result ≡ paused_of begun at }
-{
-    Reached {
-        begun: Begun {
-            held: hold(begun.held, b"", at),
-            at: onward(begun.at, at),
-            over: false,
-        },
-        taken: less(at, held_count(begun.held)),
-    }
-}
-
-fn holding(begun: Begun, piece: &[u8], at: usize) -> Reached
-    ensures { result ≡ holding_of begun piece.now at }
-{
-    Reached {
-        begun: Begun {
-            held: hold(begun.held, piece, at),
-            at: onward(begun.at, at),
-            over: false,
-        },
-        taken: piece.len(),
-    }
-}
-
-fn closed(begun: Begun, piece: &[u8], at: usize) -> Reached
-    ensures { result ≡ closed_of begun piece.now at }
-{
-    Reached {
-        begun: Begun {
-            held: none(),
-            at: onward(begun.at, at),
-            over: true,
-        },
-        taken: piece.len(),
-    }
-}
-
-// How far a piece was taken, where its records were gone through up to a place.
+// How far a piece was taken, where its records were gone through up to a place: the place moves on, no further than the limit.
+#[tactic(auto, unfolding(crate::specs::Begun::landed, crate::specs::Held::held_of))]
 pub fn land(begun: Begun, piece: &[u8], last: bool, at: usize, how: How) -> Reached
     ensures { result ≡ landed begun piece.now last at how }
 {
-    match how {
-        How::Full => paused(begun, at),
-        How::Spent => {
-            if last {
-                return closed(begun, piece, at);
-            }
-            holding(begun, piece, at)
-        }
-        How::Stopped => closed(begun, piece, at),
+    let held = begun.held.bytes();
+    let (held, over, taken) = match how {
+        How::Full => (
+            Held::first(held, b"", at),
+            false,
+            at.saturating_sub(held.len()),
+        ),
+        How::Spent if !last => (Held::first(held, piece, at), false, piece.len()),
+        How::Spent | How::Stopped => (NONE, true, piece.len()),
+    };
+    Reached {
+        begun: Begun {
+            held,
+            at: begun.at + at.min(LIMIT.saturating_sub(begun.at)),
+            over,
+        },
+        taken,
     }
 }

@@ -23,13 +23,13 @@ fn found_at(recording: &[u8], at: usize) -> Found
 }
 
 // The place past the record at a place; the same place where no whole record stands.
+#[tactic(auto, unfolding(crate::specs::Reading::place_after))]
 fn place_after(recording: &[u8], at: usize) -> usize
     ensures { result ≡ place_after_of recording.now at }
 {
     match found_at(recording, at) {
-        Found::Whole(_, next) => next.at,
-        Found::Refused(_) => at,
-        Found::End => at,
+        Ok(Some((_, next))) => next.at,
+        Ok(None) | Err(_) => at,
     }
 }
 
@@ -58,10 +58,9 @@ pub fn found<'a>(r: Reader<'a>) -> Found
 pub fn next<'a>(r: Reader<'a>) -> Reader<'a>
     ensures { (result.recording ≡ r.entry.recording) × (result.at ≡ place_after_of r.entry.recording.now r.entry.at) }
 {
-    let at = place_after(r.recording, r.at);
     Reader {
-        recording: r.recording,
-        at,
+        at: place_after(r.recording, r.at),
+        ..r
     }
 }
 

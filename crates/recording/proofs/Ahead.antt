@@ -1,4 +1,5 @@
 -- What is ahead of a feed at a place, by what stands there; and how one turn of the loop goes on or ends.
+use Rattle.std.proofs.Common.{Ok, Err, Some, None}
 use mathlib.Core.Path.{◌≡◌, refl, ap, ◌∙◌}
 use mathlib.Core.Bool.{Bool, true, false, cond}
 use mathlib.Core.List.{List, []}
@@ -15,10 +16,9 @@ use Rattle.rules.specs.declared.Event.{Event}
 use Rattle.rules.specs.declared.Refusal.{Refusal}
 use Rattle.records.specs.Recordings.{refusal}
 use Rattle.records.specs.declared.Cursor.{Cursor}
-use Rattle.records.specs.declared.Found.TheVariants.{Whole, Refused, End}
 use Rattle.pieces.specs.Limit.{seen_at}
 use Rattle.pieces.specs.declared.How.TheVariants.{Full, Spent, Stopped}
-use Rattle.pieces.proofs.Seen.{every_seen}
+use Rattle.pieces.proofs.SeenFrom.{every_seen}
 use Rattle.lines.specs.Lines.{Text, line_of, placed}
 use Rattle.lines.proofs.Output.{fits, unfit}
 use Rattle.lines.proofs.Lengths.{some}
@@ -32,14 +32,14 @@ Outcome = ℕ × List ℕ × List ℕ
 
 -- the bytes inside the limit, whether there are others, and whether they are the last
 module _ (beyond last : Bool) (r : List ℕ) (at : ℕ) (l : List ℕ) (room : ℕ) where
-  ahead-end : seen_at beyond last r at ≡ End → ahead beyond last r at l room ≡ stretch [] at Spent l
+  ahead-end : seen_at beyond last r at ≡ Ok None → ahead beyond last r at l room ≡ stretch [] at Spent l
   unfolding fitting
   ahead-end e = rw (every_seen beyond last r at, e)
 
-  ahead-refused : (x : Refusal) → seen_at beyond last r at ≡ Refused x → ahead beyond last r at l room ≡ fitting room (refusal x) at l
+  ahead-refused : (x : Refusal) → seen_at beyond last r at ≡ Err x → ahead beyond last r at l room ≡ fitting room (refusal x) at l
   ahead-refused x e = rw (every_seen beyond last r at, e)
 
-  ahead-event : (v : Event) (c : Cursor) → seen_at beyond last r at ≡ Whole v c
+  ahead-event : (v : Event) (c : Cursor) → seen_at beyond last r at ≡ Ok (Some (v, c))
       → let line = line_of (step l v).0 in
       ahead beyond last r at l room
       ≡ cond (leb (length line) room) (after line (ahead beyond last r c.at (step l v).1 (room - length line))) (stretch [] at Full l)
@@ -75,7 +75,7 @@ module _ (whole : Stretch) (out₀ out : List ℕ) (n : ℕ) where
       (stopping (leb (length (line_of (X (number x)))) (length out - n)) (number x) at l refl s)
 
   -- an event, by whether its line fits: the line is written and the next record is ahead, or the step is at its end
-  module _ (beyond last : Bool) (r : List ℕ) (at : ℕ) (l : List ℕ) (v : Event) (c : Cursor) (e : seen_at beyond last r at ≡ Whole v c)
+  module _ (beyond last : Bool) (r : List ℕ) (at : ℕ) (l : List ℕ) (v : Event) (c : Cursor) (e : seen_at beyond last r at ≡ Ok (Some (v, c)))
       (s : Reached whole out₀ out n (ahead beyond last r at l (length out - n))) where
     pub goes_on : let line = line_of (step l v).0 in
         leb (length line) (length out - n) ≡ true
@@ -128,9 +128,9 @@ module _ (whole : Stretch) (out₀ out : List ℕ) (n : ℕ) where
 
   -- what the code finds at a place: no record, or a refusal
   module _ (beyond last : Bool) (r : List ℕ) (at : ℕ) (l : List ℕ) (s : Reached whole out₀ out n (ahead beyond last r at l (length out - n))) where
-    pub ends : seen_at beyond last r at ≡ End → (stepped at Spent n, l, out) ≡ shown whole out₀
+    pub ends : seen_at beyond last r at ≡ Ok None → (stepped at Spent n, l, out) ≡ shown whole out₀
     ends e = finish whole out₀ out n at Spent l (rw (ahead-end beyond last r at l (length out - n) e) at s)
 
-    pub refused : (x : Refusal) → seen_at beyond last r at ≡ Refused x
+    pub refused : (x : Refusal) → seen_at beyond last r at ≡ Err x
         → (q : Stepped) (out' : List ℕ) → (q, out') ≡ ended out at n (line_of (X (number x))) → (q, l, out') ≡ shown whole out₀
     refused x e = stops x at l (rw (ahead-refused beyond last r at l (length out - n) x e) at s)

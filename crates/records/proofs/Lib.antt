@@ -1,4 +1,4 @@
-pub mod Amounts
+pub mod Numbers
 pub mod Laws
 pub mod Recordings
 pub mod Parts

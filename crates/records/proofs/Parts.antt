@@ -62,7 +62,7 @@ module _ (s t : List ℕ) where
 
   event-front : (kind at : ℕ) → known kind ≡ true → at + body_of kind ≤ length s → event_of kind (s ++ t) at ≡ event_of kind s at
   unfolding event_of
-  event-front zero at k h = let z : ◌≡◌ {A = ℕ} 0 1 = cc in absurd (omega arith)
+  event-front zero at k h = cc
   event-front (suc zero) at k h =
       rw (
         byte-front at (omega arith),

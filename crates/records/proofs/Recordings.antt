@@ -1,15 +1,14 @@
 -- The bound on the number of records cuts nothing off: a record is longer than nothing, so that any bound as large as what is left
 -- of the recording gives the same records.
+use Rattle.std.proofs.Common.{Ok, Err, Some, None}
 use mathlib.Core.Path.{◌≡◌, refl, sym, ap, ◌∙◌}
 use mathlib.Core.List.{List}
 use Prim.Native.Nat.{ℕ, zero, suc, ◌-◌, ◌≤◌}
 use native.Mathlib.Omega.{arith}
 use lib.ListN.{length}
 use Rattle.rules.specs.declared.Event.{Event}
-use Rattle.records.specs.Records.{record_at}
+use Rattle.records.specs.Records.{record_at, Found}
 use Rattle.records.specs.Recordings.{Records, event, end, before, records_within, records_from, EveryRecord}
-use Rattle.records.specs.declared.Found.{Found}
-use Rattle.records.specs.declared.Found.TheVariants.{Whole, Refused, End}
 use Rattle.records.proofs.Laws.{at-end, advances}
 
 module _ (s : List ℕ) where
@@ -21,9 +20,9 @@ module _ (s : List ℕ) where
   same-before : (m n at : ℕ) (x : Found) → record_at s at ≡ x → length s - at ≤ suc m → length s - at ≤ suc n
       → ((at' : ℕ) → length s - at' ≤ m → length s - at' ≤ n → records_within m s at' ≡ records_within n s at')
       → before x (records_within m s) ≡ before x (records_within n s)
-  same-before m n at End e h k next = refl
-  same-before m n at (Refused x) e h k next = refl
-  same-before m n at (Whole v c) e h k next =
+  same-before m n at (Ok None) e h k next = refl
+  same-before m n at (Err x) e h k next = refl
+  same-before m n at (Ok (Some (v, c))) e h k next =
       let a = advances s at v c e in
       ap (event v c.at) (next c.at (omega arith) (omega arith))
 
@@ -42,9 +41,9 @@ pub follows : (s : List ℕ) (at : ℕ) (v : Event) (next : ℕ) (rest : Records
 follows s at v next rest h = of (record_at s at) (sym (every_record s at) ∙ h)
   where
     of : (x : Found) → before x (records_from s) ≡ event v next rest → records_from s next ≡ rest
-    of (Whole e c) q =
+    of (Ok (Some (e, c))) q =
         let n : c.at ≡ next = cc in
         let r : records_from s c.at ≡ rest = cc in
         rw (← n) r
-    of End q = let z : ◌≡◌ {A = ℕ} 0 1 = cc in absurd (omega arith)
-    of (Refused x) q = let z : ◌≡◌ {A = ℕ} 0 1 = cc in absurd (omega arith)
+    of (Ok None) q = cc
+    of (Err x) q = cc

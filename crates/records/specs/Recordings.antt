@@ -1,10 +1,8 @@
 -- A recording as what it holds, record after record.
-use Rattle.std.specs.Prelude.{ℕ, zero, suc, ◌≡◌, List, length}
+use Rattle.std.specs.Prelude.{ℕ, zero, suc, ◌≡◌, List, length, Ok, Err, Some, None}
 use Rattle.rules.specs.declared.Event.{Event}
 use Rattle.rules.specs.declared.Refusal.{Refusal}
-use Rattle.records.specs.Records.{record_at}
-use Rattle.records.specs.declared.Found.{Found}
-use Rattle.records.specs.declared.Found.TheVariants.{Whole, Refused, End}
+use Rattle.records.specs.Records.{record_at, Found}
 
 -- from a place on: an event, the place after it, and what follows there; or the recording's end; or a refusal: `record_at` gives 11
 -- and 12, and `pieces` adds 13, and 1
@@ -15,9 +13,9 @@ pub data Records : Type 0 where
 
 -- what stands at a place, and then what follows it
 abbrev pub before : Found → (ℕ → Records) → Records
-before (Whole e next) rest = event e next.at (rest next.at)
-before End rest = end
-before (Refused r) rest = refusal r
+before (Ok (Some (e, next))) rest = event e next.at (rest next.at)
+before (Ok None) rest = end
+before (Err r) rest = refusal r
 
 -- at most n records
 unfoldable pub records_within : ℕ → List ℕ → ℕ → Records

@@ -1,13 +1,18 @@
 -- A record: one byte of kind, and a body (01, "Recordings").
-use Rattle.std.specs.Prelude.{ℕ, ◌+◌, cond, List, length, ltb, leb, eqb}
+use Rattle.std.specs.Prelude.{ℕ, ◌+◌, cond, List, length, ltb, leb, eqb, Result, Ok, Err, Some, None}
+use Rattle.std.specs.declared.option.Option.{Option}
 use Rattle.rules.specs.declared.Reference.{Reference}
 use Rattle.rules.specs.declared.Event.{Event}
 use Rattle.rules.specs.declared.Event.TheVariants.{Refer, Read, Write, Instruction, Interrupt, Change, Init}
+use Rattle.rules.specs.declared.Refusal.{Refusal}
 use Rattle.rules.specs.declared.Refusal.TheVariants.{Kind, Cut}
+use Rattle.records.specs.declared.Cursor.{Cursor}
 use Rattle.records.specs.Bytes.{byte_at, low_first, signed}
 use Rattle.records.specs.Kinds.{known, body_of}
-use Rattle.records.specs.declared.Found.{Found}
-use Rattle.records.specs.declared.Found.TheVariants.{Whole, Refused, End}
+
+-- what stands at a place: a whole record, its event and the place past it; nothing; or an unknown kind (11) or a record cut short (12)
+abbrev pub Found : Type 0
+Found = Result (Option (Event × Cursor)) Refusal
 
 -- kind 1: mode, space, access, phase, VA in 2
 abbrev pub reference_at : List ℕ → ℕ → Reference
@@ -42,6 +47,6 @@ record_at s at =
     let next = at + 1 + body_of kind in
     cond (ltb at (length s))
     (cond (known kind)
-    (cond (leb next (length s)) (Whole (event_of kind s (at + 1)) (record { at = next })) (Refused Cut))
-    (Refused Kind))
-    End
+    (cond (leb next (length s)) (Ok (Some (event_of kind s (at + 1), record { at = next }))) (Err Cut))
+    (Err Kind))
+    (Ok None)

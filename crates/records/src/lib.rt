@@ -4,67 +4,109 @@
 
 ghost use Rattle.std.specs.Prelude.{◌≡◌, ◌+◌, ◌≤◌, ◌<◌, length};
 ghost use Rattle.records.specs.Bytes.{low_first, signed};
-ghost use Rattle.records.specs.Kinds.{body_of};
+ghost use Rattle.records.specs.Kinds.{kind_number, kind_of, body_of};
 ghost use Rattle.records.specs.Records.{reference_at, change_at, event_of, record_at};
 
 use rules::{Event, Reference, Refusal};
 
 // A place in a recording.
-#[derive(Clone, Copy)]
+#[derive(Clone, Copy, Debug, PartialEq, Eq)]
 pub struct Cursor {
     pub at: usize,
 }
 
-// What stands at a cursor.
-#[derive(Clone, Copy)]
-pub enum Found {
-    // A whole record: its event, and the cursor past it.
-    Whole(Event, Cursor),
-    // An unknown kind (11), or a record cut short (12).
-    Refused(Refusal),
-    // Nothing.
-    End,
+// What stands at a cursor: a whole record, its event and the cursor past it; nothing; or a refusal, for an unknown kind (11) or a
+// record cut short (12).
+pub type Found = Result<Option<(Event, Cursor)>, Refusal>;
+
+// The kinds of record.
+#[derive(Clone, Copy, Debug, PartialEq, Eq)]
+enum Kind {
+    Reference,
+    Read,
+    Write,
+    Instruction,
+    Interrupt,
+    Change,
+    Init,
 }
 
-fn wide(b: u8) -> usize
-    ensures { (result ≡ b) × (result < 256) }
-{
-    b as usize
+// The kind of a number; 11 where there is none.
+impl TryFrom<u8> for Kind {
+    type Error = Refusal;
+
+    ghost try_from_gives = { λ number kind. kind ≡ kind_of number };
+
+    #[tactic(auto, unfolding(crate::specs::Kinds::kind_of))]
+    fn try_from(number: u8) -> Result<Kind, Refusal> {
+        match number {
+            1 => Ok(Kind::Reference),
+            2 => Ok(Kind::Read),
+            3 => Ok(Kind::Write),
+            4 => Ok(Kind::Instruction),
+            5 => Ok(Kind::Interrupt),
+            6 => Ok(Kind::Change),
+            7 => Ok(Kind::Init),
+            _ => Err(Refusal::Kind),
+        }
+    }
 }
 
-fn wide16(b: u8) -> u16
-    ensures { (result ≡ b) × (result < 256) }
-{
-    b as u16
-}
+impl Kind {
+    // How many bytes its body has.
+    fn body(self) -> usize
+        ensures { result ≡ body_of (kind_number self) }
+    {
+        match self {
+            Kind::Reference => 6,
+            Kind::Read => 3,
+            Kind::Write => 5,
+            Kind::Instruction => 2,
+            Kind::Interrupt => 2,
+            Kind::Change => 2,
+            Kind::Init => 0,
+        }
+    }
 
-fn wide32(b: u8) -> u32
-    ensures { (result ≡ b) × (result < 256) }
-{
-    b as u32
+    // Its event, with the body from a place on.
+    #[tactic(auto, unfolding(crate::specs::Records::event_of))]
+    fn event(self, s: &[u8], at: usize) -> Event
+        requires { at + body_of (kind_number self) ≤ length s.now }
+        ensures { result ≡ event_of (kind_number self) s.now at }
+    {
+        match self {
+            Kind::Reference => Event::Refer(reference_at(s, at)),
+            Kind::Read => Event::Read {
+                address: address_at(s, at),
+            },
+            Kind::Write => Event::Write {
+                address: address_at(s, at),
+                value: word_at(s, at + 3),
+            },
+            Kind::Instruction => Event::Instruction { va: word_at(s, at) },
+            Kind::Interrupt => Event::Interrupt {
+                vector: word_at(s, at),
+            },
+            Kind::Change => change_at(s, at),
+            Kind::Init => Event::Init,
+        }
+    }
 }
 
 // a number in two bytes, low byte first
-fn two_at(s: &[u8], at: usize) -> u16
+fn word_at(s: &[u8], at: usize) -> u16
     requires { at + 2 ≤ length s.now }
     ensures { result ≡ low_first 2 s.now at }
 {
-    wide16(s[at]) + 256 * wide16(s[at + 1])
+    u16::from_le_bytes([s[at], s[at + 1]])
 }
 
 // a number in three bytes, low byte first
-fn three_at(s: &[u8], at: usize) -> u32
+fn address_at(s: &[u8], at: usize) -> u32
     requires { at + 3 ≤ length s.now }
     ensures { result ≡ low_first 3 s.now at }
 {
-    wide32(s[at]) + 256 * two_at(s, at + 1) as u32
-}
-
-// an amount, a two's complement byte
-fn amount_of(b: u8) -> i32
-    ensures { result ≡ signed b }
-{
-    if b < 128 { b as i32 } else { b as i32 - 256 }
+    u32::from_le_bytes([s[at], s[at + 1], s[at + 2], 0])
 }
 
 // kind 1: mode, space, access, phase, VA
@@ -73,70 +115,23 @@ fn reference_at(s: &[u8], at: usize) -> Reference
     ensures { result ≡ reference_at s.now at }
 {
     Reference {
-        mode: wide32(s[at]),
-        space: wide32(s[at + 1]),
-        access: wide32(s[at + 2]),
-        phase: wide32(s[at + 3]),
-        va: two_at(s, at + 4),
+        mode: u32::from(s[at]),
+        space: u32::from(s[at + 1]),
+        access: u32::from(s[at + 2]),
+        phase: u32::from(s[at + 3]),
+        va: word_at(s, at + 4),
     }
 }
 
-// kind 6: register, amount
+// kind 6: register, and amount, a two's complement byte
 fn change_at(s: &[u8], at: usize) -> Event
     requires { at + 2 ≤ length s.now }
     ensures { result ≡ change_at s.now at }
 {
     Event::Change {
-        register: wide32(s[at]),
-        amount: amount_of(s[at + 1]),
+        register: u32::from(s[at]),
+        amount: i32::from(s[at + 1].cast_signed()),
     }
-}
-
-// the event of a kind, with its body from a place on
-fn event_at(kind: u8, s: &[u8], at: usize) -> Event
-    requires { at + body_of kind ≤ length s.now }
-    ensures { result ≡ event_of kind s.now at }
-{
-    match kind {
-        1 => Event::Refer(reference_at(s, at)),
-        2 => Event::Read {
-            address: three_at(s, at),
-        },
-        3 => Event::Write {
-            address: three_at(s, at),
-            value: two_at(s, at + 3),
-        },
-        4 => Event::Instruction { va: two_at(s, at) },
-        5 => Event::Interrupt {
-            vector: two_at(s, at),
-        },
-        6 => change_at(s, at),
-        _ => Event::Init,
-    }
-}
-
-// the length of a known kind's body
-fn length_of(kind: u8) -> u8
-    requires { (0 < kind) × (kind ≤ 7) }
-    ensures { result ≡ body_of kind }
-{
-    match kind {
-        1 => 6,
-        2 => 3,
-        3 => 5,
-        4 => 2,
-        5 => 2,
-        6 => 2,
-        _ => 0,
-    }
-}
-
-// the same, as a count of bytes
-fn body_of(kind: u8) -> usize
-    requires { (0 < kind) × (kind ≤ 7) }
-    ensures { (result ≡ body_of kind) × (result < 256) }
-{
-    wide(length_of(kind))
 }
 
 impl Cursor {
@@ -144,19 +139,16 @@ impl Cursor {
         ensures { result ≡ record_at s.now self.at }
     {
         let at = self.at;
-        if s.len() <= at {
-            return Found::End;
-        }
-        let kind = s[at];
-        if kind == 0 || 7 < kind {
-            return Found::Refused(Refusal::Kind);
-        }
-        let body = body_of(kind);
+        let Some(&number) = s.get(at) else {
+            return Ok(None);
+        };
+        let kind = Kind::try_from(number)?;
         let start = at + 1;
+        let body = kind.body();
         if s.len() - start < body {
-            return Found::Refused(Refusal::Cut);
+            return Err(Refusal::Cut);
         }
-        let event = event_at(kind, s, start);
-        Found::Whole(event, Cursor { at: start + body })
+        let event = kind.event(s, start);
+        Ok(Some((event, Cursor { at: start + body })))
     }
 }

@@ -1,3 +1,3 @@
-pub mod Modes
+pub mod Numbers
 pub mod Pages
 pub mod Refusing

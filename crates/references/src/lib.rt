@@ -2,122 +2,125 @@
 
 #![tactic(auto)]
 
-ghost use Rattle.std.specs.Prelude.{◌≡◌, ◌≤◌, ◌<◌, length};
+ghost use Rattle.std.specs.Prelude.{◌≡◌, Ok};
 ghost use Rattle.rules.specs.Paper.{paper};
-ghost use Rattle.rules.specs.Words.{enables_d};
-ghost use Rattle.rules.specs.References.{flat_byte, place_of, details as details_of, illegal_mode, examined as examined_of, referred as referred_of};
+ghost use Rattle.rules.specs.Words.{bit};
+ghost use Rattle.rules.specs.References.{flat_byte, details as details_of, referred};
 ghost use Rattle.rules.specs.Step.{step};
 ghost use Rattle.rules.specs.declared.Event.TheVariants.{Refer};
-ghost use Rattle.references.specs.Accepted.{Accepted, InMode};
+ghost use Rattle.references.specs.Accepted.{numbers, number_of, flag_of, accepted_of};
 
-use rules::{Answer, Reference, Refusal, Served};
+use rules::{Answer, Mode, Reference, Refusal, Store, WORDS};
+use ruling::{Flags, Page, SR0, SR3};
+
+// A reference whose numbers are accepted: its mode, none for mode 2; in the data space; a write; in an interrupt or trap sequence.
+#[derive(Clone, Copy)]
+struct Accepted {
+    mode: Option<Mode>,
+    data_space: bool,
+    write: bool,
+    phase: bool,
+    va: u16,
+}
+
+// 0 or 1, or the refusal.
+fn flag(number: u32, refusal: Refusal) -> Result<bool, Refusal>
+    ensures { result ≡ flag_of number refusal }
+{
+    match number {
+        0 => Ok(false),
+        1 => Ok(true),
+        _ => Err(refusal),
+    }
+}
+
+impl TryFrom<Reference> for Accepted {
+    type Error = Refusal;
+
+    ghost try_from_gives = { λ r a. a ≡ accepted_of r };
+
+    #[tactic(auto, unfolding(crate::specs::Accepted::accepted_of))]
+    fn try_from(r: Reference) -> Result<Accepted, Refusal> {
+        let mode = Mode::of(r.mode)?;
+        let data_space = flag(r.space, Refusal::Space)?;
+        let write = flag(r.access, Refusal::Access)?;
+        let phase = flag(r.phase, Refusal::Phase)?;
+        Ok(Accepted {
+            mode,
+            data_space,
+            write,
+            phase,
+            va: r.va,
+        })
+    }
+}
 
 // rule 1: the byte with relocation off
 fn flat(va: u16) -> u32
     ensures { result ≡ flat_byte va }
 {
     if va < 0o160000 {
-        va as u32
+        u32::from(va)
     } else {
-        va as u32 + 0o600000
+        u32::from(va) + 0o600000
     }
 }
 
-// SR3 enables D for the mode: bit 2 for mode 0, bit 1 for 1, bit 0 for 3
-fn enables_d(sr3: u16, mode: u32) -> bool
-    requires { InMode mode }
-    ensures { result ≡ enables_d sr3 mode }
-{
-    (sr3 >> (2 - (mode - mode / 2))) % 2 == 1
-}
-
-// rule 3: the page's place among the 48; modes 0, 1 and 3 begin at 0, 16 and 32
-fn place_of(mode: u32, d: bool, va: u16) -> usize
-    requires { InMode mode }
-    ensures { (result ≡ place_of mode d va) × (result < 48) }
-{
-    ((mode - mode / 2) * 16) as usize + 8 * ruling::bit(d) as usize + page::page_of(va) as usize
-}
-
-// rule 9: what bits 7:1 of SR0 are loaded with
-fn details(phase: u32, mode: u32, d: bool, va: u16) -> u16
-    requires { (phase ≤ 1) × (mode ≤ 3) }
-    ensures { result ≡ details_of phase mode d va }
-{
-    (phase * 128 + mode * 32) as u16 + ruling::bit(d) * 16 + page::page_of(va) * 2
-}
-
-// rule 2: no page is examined
-fn illegal_mode(s: &mut [u16], r: Reference) -> Answer
-    requires { Accepted (length s.old) r }
-    ensures { (paper result, s.new) ≡ illegal_mode s.old r }
-{
-    s[96] = ruling::sr0_after(s[96], 0o100000, details(r.phase, 2, false, r.va));
-    Answer::Aborted {
-        nonresident: true,
-        length: false,
-        readonly: false,
+impl Accepted {
+    // rule 9: what bits 7:1 of SR0 are loaded with
+    #[tactic(auto, using(ruling::proofs::Bits::byte_bit))]
+    fn details(self, d: bool) -> u16
+        ensures { result ≡ details_of (bit self.phase) (number_of self.mode) d self.va }
+    {
+        let mode = match self.mode {
+            Some(mode) => u16::from(mode),
+            None => 2,
+        };
+        u16::from(self.phase) * 128 + mode * 32 + u16::from(d) * 16 + page::page_of(self.va) * 2
     }
-}
 
-// rules 3 to 9
-fn examined(s: &mut [u16], r: Reference) -> Answer
-    requires { Accepted (length s.old) r × InMode r.mode }
-    ensures { (paper result, s.new) ≡ examined_of s.old r }
-{
-    let data = r.space == 1;
-    let d = data & enables_d(s[99], r.mode);
-    let p = place_of(r.mode, d, r.va);
-    let pdr = 48 + p;
-    let ruled = ruling::rule(
-        p as u8,
-        s[p],
-        s[pdr],
-        s[96],
-        r.access == 1,
-        details(r.phase, r.mode, d, r.va),
-        r.va,
-    );
-    s[pdr] = ruled.pdr;
-    s[96] = ruled.sr0;
-    ruled.answer
-}
-
-fn referred(s: &mut [u16], r: Reference) -> Answer
-    requires { Accepted (length s.old) r }
-    ensures { (paper result, s.new) ≡ referred_of s.old r }
-{
-    if s[96] % 2 == 1 {
-        if r.mode == 2 {
-            return illegal_mode(s, r);
+    // Rules 1 to 3, and then the page found.
+    #[tactic(auto, unfolding(rules::specs::References::referred, rules::specs::References::illegal_mode))]
+    fn refer(self, s: &mut Store) -> Answer
+        ensures { (paper (Ok result), s.new) ≡ referred s.old (numbers self) }
+    {
+        if s[SR0] % 2 == 0 {
+            return Answer::Granted {
+                byte: flat(self.va),
+                trap: false,
+                served: None,
+            };
         }
-        return examined(s, r);
-    }
-    Answer::Granted {
-        byte: flat(r.va),
-        trap: false,
-        served: Served::None,
+        let Some(mode) = self.mode else {
+            let flags = Flags {
+                nonresident: true,
+                length: false,
+                readonly: false,
+            };
+            s[SR0] = ruling::sr0_after(s[SR0], flags.bits(), self.details(false));
+            return Answer::from(flags);
+        };
+        let d = self.data_space & mode.enables_d(s[SR3]);
+        let p = mode.first_page() + 8 * usize::from(d) + usize::from(page::page_of(self.va));
+        let pdr = 48 + p;
+        let page = Page {
+            place: p as u8,
+            par: s[p],
+            pdr: s[pdr],
+        };
+        let ruled = ruling::rule(page, s[SR0], self.write, self.details(d), self.va);
+        s[pdr] = ruled.pdr;
+        s[SR0] = ruled.sr0;
+        ruled.answer
     }
 }
 
 // A reference: refused by 1 to 5, or answered by rules 1 to 9.
-pub fn reference(s: &mut [u16], r: Reference) -> Answer
+#[tactic(auto, using(crate::proofs::Refusing::refer_step))]
+pub fn reference(s: &mut [u16], r: Reference) -> Result<Answer, Refusal>
     ensures { (paper result, s.new) ≡ step s.old (Refer r) }
 {
-    if s.len() != 100 {
-        return Answer::Refused(Refusal::Store);
-    }
-    if 3 < r.mode {
-        return Answer::Refused(Refusal::Mode);
-    }
-    if 1 < r.space {
-        return Answer::Refused(Refusal::Space);
-    }
-    if 1 < r.access {
-        return Answer::Refused(Refusal::Access);
-    }
-    if 1 < r.phase {
-        return Answer::Refused(Refusal::Phase);
-    }
-    referred(s, r)
+    let store = s.as_mut_array::<WORDS>().ok_or(Refusal::Store)?;
+    let accepted = Accepted::try_from(r)?;
+    Ok(accepted.refer(store))
 }

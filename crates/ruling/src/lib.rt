@@ -2,14 +2,24 @@
 
 #![tactic(auto)]
 
-ghost use Rattle.std.specs.Prelude.{◌≡◌, ◌≤◌, cond};
+ghost use Rattle.std.specs.Prelude.{◌≡◌, ◌||◌, cond, Ok};
 ghost use Rattle.rules.specs.Paper.{paper};
 ghost use Rattle.rules.specs.Keys.{key_of, right_of};
-ghost use Rattle.rules.specs.Words.{bit as bit_of, frozen as is_frozen};
+ghost use Rattle.rules.specs.Words.{frozen as is_frozen};
 ghost use Rattle.rules.specs.References.{marks_of, abort_flags, sr0_after};
-ghost use Rattle.ruling.specs.Rulings.{ruling_of, abort_of, grant_of};
+ghost use Rattle.rules.specs.declared.Answer.TheVariants.{Aborted};
+ghost use Rattle.ruling.specs.Rulings.{ruling_of};
 
-use rules::{Answer, Right, Served};
+pub use decode::{SR0, SR1, SR2, SR3};
+use rules::{Answer, Right};
+
+// A page as a reference finds it: its place among the 48, and its two words.
+#[derive(Clone, Copy)]
+pub struct Page {
+    pub place: u8,
+    pub par: u16,
+    pub pdr: u16,
+}
 
 // The answer, and the page's PDR and SR0 afterwards.
 #[derive(Clone, Copy)]
@@ -26,40 +36,32 @@ const NONE: Right = Right {
     writetrap: false,
 };
 
+const READ: Right = Right { read: true, ..NONE };
+
+const READ_WRITE: Right = Right {
+    write: true,
+    ..READ
+};
+
 // Table 2-2: each key's rights, and the accesses on which its trap condition holds.
 const KEYS: [Right; 8] = [
     NONE,
     Right {
-        read: true,
-        write: false,
         readtrap: true,
-        writetrap: false,
+        ..READ
     },
-    Right {
-        read: true,
-        write: false,
-        readtrap: false,
-        writetrap: false,
-    },
+    READ,
     NONE,
     Right {
-        read: true,
-        write: true,
         readtrap: true,
         writetrap: true,
+        ..READ_WRITE
     },
     Right {
-        read: true,
-        write: true,
-        readtrap: false,
         writetrap: true,
+        ..READ_WRITE
     },
-    Right {
-        read: true,
-        write: true,
-        readtrap: false,
-        writetrap: false,
-    },
+    READ_WRITE,
     NONE,
 ];
 
@@ -69,13 +71,6 @@ pub fn right_of(pdr: u16) -> Right
 {
     let key = (pdr % 8) as usize;
     KEYS[key]
-}
-
-// A flag as a number.
-pub fn bit(b: bool) -> u16
-    ensures { (result ≡ bit_of b) × (result ≤ 1) }
-{
-    b as u16
 }
 
 // rule 9: any of SR0 bits 15:13 is set
@@ -97,20 +92,14 @@ fn condition(right: Right, write: bool) -> bool
 }
 
 // rule 7: A and W as they are to be set
+#[tactic(auto, using(crate::proofs::Bits::byte_bit))]
 fn marks(byte: u32, a: bool, w: bool) -> u16
     ensures { result ≡ marks_of byte a w }
 {
     if decode::in_registers(byte) {
         return 0;
     }
-    bit(a) * 0o200 + bit(w) * 0o100
-}
-
-// rule 8: the flags as they stand in SR0
-fn abort_flags(nonresident: bool, length: bool, readonly: bool) -> u16
-    ensures { result ≡ abort_flags nonresident length readonly }
-{
-    bit(nonresident) * 0o100000 + bit(length) * 0o40000 + bit(readonly) * 0o20000
+    u16::from(a) * 0o200 + u16::from(w) * 0o100
 }
 
 // rules 8 and 9: SR0 with flags added and, if it was not frozen, bits 7:1 loaded
@@ -126,60 +115,72 @@ pub fn sr0_after(sr0: u16, flags: u16, loaded: u16) -> u16
     (sr0 & 0o177401) | loaded | flags
 }
 
-fn aborted(
-    pdr: u16,
-    sr0: u16,
-    nonresident: bool,
-    length: bool,
-    readonly: bool,
-    loaded: u16,
-) -> Ruling
-    ensures { (paper result.answer, (result.pdr, result.sr0)) ≡ abort_of pdr sr0 nonresident length readonly loaded }
-{
-    Ruling {
-        answer: Answer::Aborted {
-            nonresident,
-            length,
-            readonly,
-        },
-        pdr,
-        sr0: sr0_after(sr0, abort_flags(nonresident, length, readonly), loaded),
+// rule 4: what a reference is aborted by
+#[derive(Clone, Copy)]
+pub struct Flags {
+    pub nonresident: bool,
+    pub length: bool,
+    pub readonly: bool,
+}
+
+impl Flags {
+    fn any(self) -> bool
+        ensures { result ≡ (self.nonresident || self.length || self.readonly) }
+    {
+        self.nonresident | self.length | self.readonly
+    }
+
+    // rule 8: as they stand in SR0
+    #[tactic(auto, using(crate::proofs::Bits::byte_bit))]
+    pub fn bits(self) -> u16
+        ensures { result ≡ abort_flags self.nonresident self.length self.readonly }
+    {
+        u16::from(self.nonresident) * 0o100000
+            + u16::from(self.length) * 0o40000
+            + u16::from(self.readonly) * 0o20000
     }
 }
 
-fn granted(place: u8, byte: u32, pdr: u16, sr0: u16, a: bool, write: bool, loaded: u16) -> Ruling
-    ensures { (paper result.answer, (result.pdr, result.sr0)) ≡ grant_of place byte pdr sr0 a write loaded }
+// The abort with these flags.
+impl From<Flags> for Answer {
+    ghost from_gives = { λ f a. a ≡ Aborted f.nonresident f.length f.readonly };
+
+    fn from(flags: Flags) -> Answer {
+        Answer::Aborted {
+            nonresident: flags.nonresident,
+            length: flags.length,
+            readonly: flags.readonly,
+        }
+    }
+}
+
+// Rules 4 to 9 for a page, given SR0 and what bits 7:1 of it would be loaded with.
+pub fn rule(page: Page, sr0: u16, write: bool, loaded: u16, va: u16) -> Ruling
+    ensures { (paper (Ok result.answer), (result.pdr, result.sr0)) ≡ ruling_of page.place page.par page.pdr sr0 write loaded va }
 {
+    let right = right_of(page.pdr);
+    let flags = Flags {
+        nonresident: !right.read,
+        length: page::length_error(page.pdr, page::block_of(va)),
+        readonly: write & (right.read & !right.write),
+    };
+    if flags.any() {
+        return Ruling {
+            answer: Answer::from(flags),
+            pdr: page.pdr,
+            sr0: sr0_after(sr0, flags.bits(), loaded),
+        };
+    }
+    let byte = page::byte_of(page.par, va);
+    let a = condition(right, write);
     let trap = a & (sr0 / 512 % 2 == 1);
     Ruling {
         answer: Answer::Granted {
             byte,
             trap,
-            served: Served::Page(place),
+            served: Some(page.place),
         },
-        pdr: pdr | marks(byte, a, write),
-        sr0: sr0_after(sr0, bit(trap) * 0o10000, loaded),
+        pdr: page.pdr | marks(byte, a, write),
+        sr0: sr0_after(sr0, u16::from(trap) * 0o10000, loaded),
     }
-}
-
-// Rules 4 to 9 for the page at a place and its PAR and PDR, given SR0 and what bits 7:1 of it would be loaded with.
-pub fn rule(place: u8, par: u16, pdr: u16, sr0: u16, write: bool, loaded: u16, va: u16) -> Ruling
-    ensures { (paper result.answer, (result.pdr, result.sr0)) ≡ ruling_of place par pdr sr0 write loaded va }
-{
-    let right = right_of(pdr);
-    let nonresident = !right.read;
-    let length = page::length_error(pdr, page::block_of(va));
-    let readonly = write & (right.read & !right.write);
-    if nonresident | length | readonly {
-        return aborted(pdr, sr0, nonresident, length, readonly, loaded);
-    }
-    granted(
-        place,
-        page::byte_of(par, va),
-        pdr,
-        sr0,
-        condition(right, write),
-        write,
-        loaded,
-    )
 }

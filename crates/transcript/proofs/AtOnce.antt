@@ -26,10 +26,10 @@ pub record Whole (rs : Records) (l : List ℕ) (q : Stretch) : Type 0 where
 pub all_fit : (rs : Records) (room at : ℕ) (l : List ℕ) → length (told rs l).0 ≤ room → Whole rs l (fitting room rs at l)
 unfolding fitting told
 all_fit end room at l h =
-    record { text = refl; store = refl; room-left = λ e. let z : ◌≡◌ {A = ℕ} 0 1 = cc in omega arith }
+    record { text = refl; store = refl; room-left = λ e. cc }
 all_fit (refusal r) room at l h =
     rw (le-leb (length (line_of (X (number r)))) room h)
-    (record { text = append-nil (line_of (X (number r))); store = refl; room-left = λ e. let z : ◌≡◌ {A = ℕ} 0 1 = cc in omega arith })
+    (record { text = append-nil (line_of (X (number r))); store = refl; room-left = λ e. cc })
 all_fit (event v next rest) room at l h =
     let s = step l v in
     let line = line_of s.0 in

@@ -39,8 +39,8 @@ no_more k r e = by k.last (leb (length r) k.offer) refl e
   where
     by : (x y : Bool) → leb (length r) k.offer ≡ y → (x && y) ≡ true → drop k.offer r ≡ []
     by true true h e = drop_of_length-le r {i = k.offer} (leb-true (length r) k.offer h)
-    by true false h e = let z : ◌≡◌ {A = ℕ} 0 1 = cc in absurd (omega arith)
-    by false y h e = let z : ◌≡◌ {A = ℕ} 0 1 = cc in absurd (omega arith)
+    by true false h e = cc
+    by false y h e = cc
 
 -- what a call does not take, and what it does not offer, is what is left of the bytes
 not_taken : (n m : ℕ) (r : List ℕ) → n ≤ length (take m r) → drop n (take m r) ++ drop m r ≡ drop n r

@@ -23,7 +23,7 @@ use Rattle.transcript.proofs.AtOnce.{all_fit, at_once}
 
 -- not the last bytes
 never : {A : Type 0} → false ≡ true → A
-never h = let z : ◌≡◌ {A = ℕ} 0 1 = cc in absurd (omega arith)
+never h = cc
 
 module _ (b : Begun) (piece more l : List ℕ) (few : Few b) where
   -- what a piece tells is the front of what is left

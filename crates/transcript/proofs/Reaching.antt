@@ -1,4 +1,5 @@
 -- How far a feed takes its piece, and what it leaves: by the tests before the records, and by how they were gone through.
+use Rattle.std.proofs.Common.{Ok, None}
 use mathlib.Core.Path.{◌≡◌, refl}
 use mathlib.Core.Bool.{Bool, true, false, cond, ◌||◌}
 use mathlib.Core.List.{List, []}
@@ -8,7 +9,6 @@ use lib.Dec.{leb, eqb}
 use lib.ListN.{length, length-append, length-take}
 use borrow.Author.Tests.{eqb-true, eqb-false, leb-false}
 use Rattle.rules.specs.Paper.{X}
-use Rattle.records.specs.declared.Found.TheVariants.{End}
 use Rattle.lines.specs.Lines.{line_of}
 use Rattle.lines.proofs.Lengths.{most}
 use Rattle.pieces.specs.Limit.{seen_at}
@@ -30,7 +30,7 @@ few-after b piece last q = few-landed b piece (last || b.over) q.at q.how
 pub record Going (b : Begun) (piece : List ℕ) (last : Bool) (room : ℕ) (q : Stretch) : Type 0 where
   pub within : q.at ≤ length (inside b piece)
   pub full : Roomy room → q.how ≡ Full → 0 < q.at
-  pub spent : q.how ≡ Spent → seen_at (beyond b piece) last (inside b piece) q.at ≡ End
+  pub spent : q.how ≡ Spent → seen_at (beyond b piece) last (inside b piece) q.at ≡ Ok None
 
 module _ (b : Begun) (piece : List ℕ) (last : Bool) (l : List ℕ) (room : ℕ) where
   store_line : (t : Bool) → leb (length (line_of (X 1))) room ≡ t
@@ -38,14 +38,14 @@ module _ (b : Begun) (piece : List ℕ) (last : Bool) (l : List ℕ) (room : ℕ
   store_line true e =
       record {
         within = omega arith;
-        full = λ r h. let z : ◌≡◌ {A = ℕ} 0 1 = cc in absurd (omega arith);
-        spent = λ h. let z : ◌≡◌ {A = ℕ} 0 1 = cc in absurd (omega arith);
+        full = λ r h. cc;
+        spent = λ h. cc;
       }
   store_line false e =
       record {
         within = omega arith;
         full = λ r h. absurd (omega (arith, r, most (X 1), leb-false (length (line_of (X 1))) room e));
-        spent = λ h. let z : ◌≡◌ {A = ℕ} 0 1 = cc in absurd (omega arith);
+        spent = λ h. cc;
       }
 
   by-words : b.over ≡ false → (t : Bool) → eqb (length l) 100 ≡ t → Going b piece last room (feed_of b piece last l room)

@@ -1,4 +1,5 @@
 -- What a feed writes and what is then left make what was left before: by the tests before the records, and by how they were gone through.
+use Rattle.std.proofs.Common.{Ok, None}
 use mathlib.Core.Path.{◌≡◌, refl, ap, ◌∙◌}
 use mathlib.Core.Bool.{Bool, true, false, cond, ◌||◌}
 use mathlib.Core.List.{List, [], ◌++◌, append-nil}
@@ -10,7 +11,6 @@ use borrow.Author.Tests.{eqb-true, eqb-false, ltb-false}
 use Rattle.rules.specs.Paper.{X}
 use Rattle.rules.specs.declared.Refusal.TheVariants.{Store}
 use Rattle.records.specs.Recordings.{Records, refusal}
-use Rattle.records.specs.declared.Found.TheVariants.{End}
 use Rattle.records.proofs.Parts.{stands}
 use Rattle.lines.specs.Lines.{Text, line_of}
 use Rattle.pieces.specs.Limit.{seen_at, seen_from}
@@ -18,7 +18,7 @@ use Rattle.pieces.specs.Begun.{joined, allowed, inside, beyond, Few, landed, pau
 use Rattle.pieces.specs.declared.Begun.{Begun}
 use Rattle.pieces.specs.declared.How.{How}
 use Rattle.pieces.specs.declared.How.TheVariants.{Full, Spent, Stopped}
-use Rattle.pieces.proofs.Seen.{every_seen}
+use Rattle.pieces.proofs.SeenFrom.{every_seen}
 use Rattle.transcript.specs.Transcript.{told}
 use Rattle.transcript.specs.Feeding.{Stretch, stretch, after, fitting, feed_of, left}
 use Rattle.transcript.specs.Claims.{Together}
@@ -42,7 +42,7 @@ module _ (b : Begun) (piece : List ℕ) (more : List ℕ) where
 
   -- where no record is left
   after-spent : (last : Bool) → Few b → (last ≡ true → more ≡ []) → (at : ℕ) (l : List ℕ) → length l ≡ 100 → at ≤ length (inside b piece)
-      → seen_at (beyond b piece) last (inside b piece) at ≡ End → (text : Text)
+      → seen_at (beyond b piece) last (inside b piece) at ≡ Ok None → (text : Text)
       → after_that last (stretch text at Spent l) ≡ told (seen_from (beyond b (piece ++ more)) true (inside b (piece ++ more)) at) l
   unfolding after_that landed told
   after-spent true few final at l w n e text =
@@ -58,7 +58,7 @@ module _ (b : Begun) (piece : List ℕ) (more : List ℕ) where
 
   -- by how the records were gone through
   by-how : (h : How) (last : Bool) → Few b → (last ≡ true → more ≡ []) → (at : ℕ) (l : List ℕ) → length l ≡ 100 → at ≤ length (inside b piece)
-      → (h ≡ Spent → seen_at (beyond b piece) last (inside b piece) at ≡ End) → (text : Text)
+      → (h ≡ Spent → seen_at (beyond b piece) last (inside b piece) at ≡ Ok None) → (text : Text)
       → after_that last (stretch text at h l) ≡ onwards h (told (seen_from (beyond b (piece ++ more)) true (inside b (piece ++ more)) at) l) l
   unfolding after_that landed
   by-how Stopped last few final at l w n e text = left_over _ _ l refl

@@ -1,4 +1,5 @@
 -- An event's record, wherever it stands, is read as the event: each field is read back from its bytes.
+use Rattle.std.proofs.Common.{Ok, Some}
 use mathlib.Core.Path.{◌≡◌, refl, sym, ap, ◌∙◌}
 use mathlib.Core.Bool.{true}
 use mathlib.Core.List.{List, ◌++◌}
@@ -12,7 +13,6 @@ use Rattle.rules.specs.declared.Event.TheVariants.{Refer, Read, Write, Instructi
 use Rattle.records.specs.Bytes.{byte_at}
 use Rattle.records.specs.Kinds.{known, body_of}
 use Rattle.records.specs.Records.{event_of, record_at}
-use Rattle.records.specs.declared.Found.TheVariants.{Whole}
 use Rattle.records.proofs.Laws.{at-whole}
 use Rattle.records.proofs.Parts.{event-drop}
 use Rattle.writer.specs.Bytes.{record_of}
@@ -71,7 +71,7 @@ body_length (Change register amount) q = refl
 body_length Init q = refl
 
 pub found : (s : List ℕ) (at : ℕ) (e : Event) (q : List ℕ) → drop at s ≡ record_of e ++ q → Fits e → Held e
-    → record_at s at ≡ Whole e (record { at = at + length (record_of e) })
+    → record_at s at ≡ Ok (Some (e, record { at = at + length (record_of e) }))
 found s at e q d f h =
     let front = record_of e ++ q in
     let kind : byte_at s at ≡ byte_at front 0 =

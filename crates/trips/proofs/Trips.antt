@@ -1,4 +1,5 @@
 -- Both round trips: a run of records is what writing its events makes, and reading it gives the events.
+use Rattle.std.proofs.Common.{Ok, Err, Some, None}
 use mathlib.Core.Path.{◌≡◌, refl, sym, ap, ◌∙◌}
 use mathlib.Core.Bool.{Bool, true, false, cond, false≢true}
 use mathlib.Core.List.{List, [], ◌∷◌, ◌++◌, append_assoc, append-nil}
@@ -9,10 +10,8 @@ use lib.Seq.{take_at, drop_at, drop-drop, length-take-le, drop-append_seam}
 use lib.Dec.{eqb}
 use borrow.Author.Tests.{eqb-true}
 use Rattle.rules.specs.declared.Event.{Event}
-use Rattle.records.specs.Records.{record_at}
+use Rattle.records.specs.Records.{record_at, Found}
 use Rattle.records.specs.Recordings.{Records, before, records_within, records_from}
-use Rattle.records.specs.declared.Found.{Found}
-use Rattle.records.specs.declared.Found.TheVariants.{Whole, Refused, End}
 use Rattle.records.proofs.Laws.{at-end, advances, end-tells}
 use Rattle.records.proofs.Recordings.{every_record}
 use Rattle.writer.specs.Bytes.{record_of}
@@ -116,9 +115,9 @@ module _ (s : List ℕ) (bytes : Bytes s) where
   one-read : (n at : ℕ) (x : Found) → record_at s at ≡ x → ((at' : ℕ) → at < at' → at' ≤ length s → Rewritten s at' (records_within n s at'))
       → Rewritten s at (before x (records_within n s))
   unfolding records_of
-  one-read n at End e next w = (sym (drop_of_length-le s (end-tells s at e)), tt)
-  one-read n at (Refused r) e next w = absurd (false≢true w)
-  one-read n at (Whole v c) e next w =
+  one-read n at (Ok None) e next w = (sym (drop_of_length-le s (end-tells s at e)), tt)
+  one-read n at (Err r) e next w = absurd (false≢true w)
+  one-read n at (Ok (Some (v, c))) e next w =
       let a = advances s at v c e in
       let back = whole_back s bytes at v c e in
       let rest = next c.at a.0 a.1 w in

@@ -1,4 +1,5 @@
 -- What is read at a place is written as the bytes that stand there: over the seven kinds, each field from its bytes.
+use Rattle.std.proofs.Common.{Ok, Some}
 use mathlib.Core.Path.{◌≡◌, refl, sym, ap, ◌∙◌}
 use mathlib.Core.Bool.{true, false, false≢true}
 use mathlib.Core.List.{List, ◌∷◌, ◌++◌}
@@ -14,7 +15,6 @@ use Rattle.records.specs.Bytes.{byte_at, low_first}
 use Rattle.records.specs.Kinds.{known, body_of}
 use Rattle.records.specs.Records.{event_of, record_at}
 use Rattle.records.specs.declared.Cursor.{Cursor}
-use Rattle.records.specs.declared.Found.TheVariants.{Whole}
 use Rattle.records.proofs.Laws.{whole_tells}
 use Rattle.writer.specs.Bytes.{bytes_of, record_of}
 use Rattle.trips.specs.Trips.{Bytes}
@@ -100,7 +100,7 @@ module _ (s : List ℕ) (bytes : Bytes s) where
       (init_back at)
 
   -- a whole record at a place: its event fits, and is written as its bytes
-  pub whole_back : (at : ℕ) (e : Event) (c : Cursor) → record_at s at ≡ Whole e c → Fits e × (record_of e ++ drop c.at s ≡ drop at s)
+  pub whole_back : (at : ℕ) (e : Event) (c : Cursor) → record_at s at ≡ Ok (Some (e, c)) → Fits e × (record_of e ++ drop c.at s ≡ drop at s)
   unfolding run
   whole_back at e c h =
       let k = whole_tells s at e c h in

@@ -4,7 +4,7 @@ use mathlib.Core.List.{List}
 use Prim.Native.Nat.{ℕ}
 use native.Mathlib.Omega.{arith}
 use Rattle.rules.specs.Paper.{Paper}
-use Rattle.pieces.proofs.Seen.{seen-advances}
+use Rattle.pieces.proofs.SeenFrom.{seen-advances}
 use Rattle.account.proofs.Trails.{trail-end, trail-refused, trail-event}
 use Rattle.account.proofs.survey_records.Goals as goal
 

@@ -6,7 +6,6 @@ use native.Mathlib.Nat.{mod-eq_of_lt, zero-mul, one-mul}
 use native.Mathlib.Omega.{arith}
 use lib.Bits.{bit_xor, xor_zero_r, xor_add_and, and_mask}
 use lib.Dec.{ltb, eqb}
-use borrow.Author.Rules.{rules}
 use borrow.Author.Tests.{ltb-true, ltb-false, lt-ltb, le-ltb}
 use Rattle.page.specs.Length.{length_error}
 use Rattle.page.proofs.length_error.Goals as goal

@@ -3,7 +3,7 @@ use mathlib.Core.Path.{refl, sym, ◌∙◌}
 use mathlib.Core.List.{◌++◌}
 use native.Mathlib.Omega.{arith}
 use borrow.Author.Rules.{rules}
-use Rattle.pieces.proofs.Seen.{seen-advances}
+use Rattle.pieces.proofs.SeenFrom.{seen-advances}
 use Rattle.recording.specs.Parts.{ahead}
 use Rattle.recording.proofs.Reached.{begin}
 use Rattle.recording.proofs.Ahead.{ends, refused, takes, leaves}

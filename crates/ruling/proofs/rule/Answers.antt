@@ -1,30 +1,32 @@
 -- `rule` meets its contract: the flags read from the table are rule 4's, and their test picks the definition's case.
-use Prim.Native.Nat.{ℕ, ◌%◌, ◌<◌}
-use native.Mathlib.Omega.{arith}
+use Prim.Native.Nat.{◌%◌}
 use Rattle.ruling.specs.Rulings.{ruling_of}
+use Rattle.ruling.proofs.Bits.{byte_bit}
 use Rattle.ruling.proofs.Keys.{absent, only-read, trapping}
 use Rattle.ruling.proofs.rule.Goals as goal
 
-key-small : (pdr : ℕ) → pdr % 8 < 8
-key-small pdr = omega arith
-
-pub returns-then-nonresident-length : goal.returns-then-nonresident-length
+pub returns-then-any : goal.returns-then-any
 unfolding ruling_of
-returns-then-nonresident-length c =
-    let pdr = c.args.pdr in
+returns-then-any c =
+    let pdr = c.args.page.pdr in
     let k = c.right_of-right.ensures in
-    let b = c.block_of.ensures.0 in
-    let l = c.length_error-length.ensures in
-    let t = rw (k, l, b, absent (pdr % 8), only-read (pdr % 8) (key-small pdr)) at c.if-nonresident-length.true in
-    rw (c.aborted.ensures, k, l, b, absent (pdr % 8), only-read (pdr % 8) (key-small pdr), t)
+    let t = rw (c.any.ensures, k, c.length_error.ensures, c.block_of.ensures.0, absent (pdr % 8), only-read pdr) at c.if-any.true in
+    rw (c.from.ensures, c.sr0_after.ensures, c.bits.ensures, k, c.length_error.ensures, c.block_of.ensures.0, absent (pdr % 8), only-read pdr, t)
 
 pub returns : goal.returns
 unfolding ruling_of
 returns c =
-    let pdr = c.args.pdr in
-    let write = c.args.write in
+    let pdr = c.args.page.pdr in
     let k = c.right_of-right.ensures in
-    let b = c.block_of.ensures.0 in
-    let l = c.length_error-length.ensures in
-    let t = rw (k, l, b, absent (pdr % 8), only-read (pdr % 8) (key-small pdr)) at c.if-nonresident-length.false in
-    rw (c.granted.ensures, c.condition.ensures, c.byte_of.ensures.0, k, trapping pdr write, t)
+    let t = rw (c.any.ensures, k, c.length_error.ensures, c.block_of.ensures.0, absent (pdr % 8), only-read pdr) at c.if-any.false in
+    rw (
+      c.sr0_after-2.ensures,
+      c.from-2.ensures,
+      byte_bit,
+      c.marks.ensures,
+      c.byte_of-byte.ensures.0,
+      c.condition-a.ensures,
+      k,
+      trapping pdr c.args.write,
+      t,
+    )
