@@ -2,7 +2,7 @@
 use mathlib.Core.Path.{◌≡◌, refl, sym, ◌∙◌}
 use mathlib.Core.Bool.{Bool, true, false, cond, not, ◌&&◌, ◌||◌}
 use mathlib.Core.List.{List, [], ◌∷◌}
-use Prim.Native.Nat.{ℕ, ◌/◌, ◌%◌}
+use Prim.Native.Nat.{ℕ, ◌%◌}
 use native.Mathlib.Omega.{arith}
 use native.Mathlib.Nat.{mod-mod}
 use lib.Dec.{eqb, ltb}
@@ -18,39 +18,13 @@ use Rattle.rules.specs.Registers.{written_at}
 use Rattle.rules.specs.Refusals.{refusal_of, odd}
 use Rattle.rules.specs.Step.{step, accepted}
 use Rattle.rules.specs.declared.Event.TheVariants.{Write}
-use Rattle.decode.specs.Parts.{by_part, first_of, status_at}
-use Rattle.decode.proofs.Same.{same}
+use Rattle.std.proofs.Common.{Some, None}
+use Rattle.decode.specs.Parts.{place_at}
+use Rattle.decode.proofs.Same.{odd-none, high-none}
 use Rattle.widening.specs.Widens.{widens_par, keeps_blocks, keeps_rights}
-use Rattle.widening.specs.Premises.{premises}
 use Rattle.auditing.specs.declared.Reason.TheVariants.{WritesSr3, RelocationOff, ChangesPar, ChangesEd, Narrows, LosesRights}
-use Rattle.auditing.specs.declared.Verdict.TheVariants.{Permitted, Breaks}
-use Rattle.auditing.specs.Verdicts.{verdict_of, first_broken, reasons}
+use Rattle.auditing.specs.Verdicts.{broken_by, first_broken}
 use Rattle.auditing.specs.Places.{left_on, place_verdict}
-
--- no register at an odd address, or above 777777
-odd-none : (a : ℕ) → odd a ≡ true → is_register a ≡ false
-unfolding by_part
-odd-none a h = rw (← same a, h)
-
-high-none : (a : ℕ) → ltb 0o777777 a ≡ true → is_register a ≡ false
-unfolding by_part first_of status_at
-high-none a h = at (odd a) refl
-  where
-    at : (x : Bool) → odd a ≡ x → is_register a ≡ false
-    at true e = odd-none a e
-    at false e =
-        let k = ltb-true 0o777777 a h in
-        rw (
-          ← same a,
-          e,
-          ne_eqb (a / 64) 0o7723 (λ q. omega arith),
-          ne_eqb (a / 64) 0o7722 (λ q. omega arith),
-          ne_eqb (a / 64) 0o7776 (λ q. omega arith),
-          ne_eqb a 0o777572 (λ q. omega arith),
-          ne_eqb a 0o777574 (λ q. omega arith),
-          ne_eqb a 0o777576 (λ q. omega arith),
-          ne_eqb a 0o772516 (λ q. omega arith),
-        )
 
 -- h, o, g: a high address, an odd one, a register's
 by_tests : (h o g : Bool) → (h ≡ true → g ≡ false) → (o ≡ true → g ≡ false)
@@ -107,13 +81,13 @@ module _ (l : List ℕ) (whole : length l ≡ 100) where
 in_order : (t o x y n p e b k : Bool)
     → first_broken (not t ∷ o ∷ (not x || p) ∷ (not (not x && y) || n || e) ∷ (not (not x && y) || n || b) ∷ (not (not x && y) || n || k) ∷ [])
     (WritesSr3 ∷ RelocationOff ∷ ChangesPar ∷ ChangesEd ∷ Narrows ∷ LosesRights ∷ [])
-    ≡ cond t (Breaks WritesSr3)
+    ≡ cond t (Some WritesSr3)
     (cond o
-    (cond x (cond p Permitted (Breaks ChangesPar))
+    (cond x (cond p None (Some ChangesPar))
     (cond y
-    (cond n Permitted (cond e (cond b (cond k Permitted (Breaks LosesRights)) (Breaks Narrows)) (Breaks ChangesEd)))
-    Permitted))
-    (Breaks RelocationOff))
+    (cond n None (cond e (cond b (cond k None (Some LosesRights)) (Some Narrows)) (Some ChangesEd)))
+    None))
+    (Some RelocationOff))
 in_order true o x y n p e b k = refl
 in_order false false x y n p e b k = refl
 in_order false true true y n true e b k = refl
@@ -125,18 +99,30 @@ in_order false true false true false p true false k = refl
 in_order false true false true false p true true false = refl
 in_order false true false true false p true true true = refl
 
-pub write_verdict : (l : List ℕ) → length l ≡ 100 → (a v : ℕ)
-    → verdict_of l (Write a v) ≡ cond (is_register a) (place_verdict l (register_at a) v) Permitted
-unfolding verdict_of place_verdict
-write_verdict l whole a v = rw (eq-eqb (length l) 100 whole, accepted-write l whole a v) (at (is_register a) refl)
-  where
-    at : (g : Bool) → is_register a ≡ g
-        → cond (is_register a) (first_broken (premises l (Write a v)) reasons) Permitted ≡ cond (is_register a)
-        (place_verdict l (register_at a) v) Permitted
-    at true e =
-        let place = register_at a in
-        let old = word l place in
-        rw (leaves-on l whole a v e, e)
-        (in_order (eqb place SR3) (left_on (word l SR0) place v) (ltb place 48) (ltb place 96) (non_resident (key_of old))
-        (widens_par (word l (PDR place)) old v) (eqb (ed_of v) (ed_of old)) (keeps_blocks old v) (keeps_rights (key_of old) (key_of v)))
-    at false e = rw e
+module _ (l : List ℕ) (whole : length l ≡ 100) (a v : ℕ) where
+  by_address : (g : Bool) → is_register a ≡ g → broken_by l (Write a v) ≡ cond g (place_verdict l (register_at a) v) None
+  unfolding broken_by place_verdict
+  by_address true e =
+      let place = register_at a in
+      let old = word l place in
+      rw (accepted-write l whole a v, leaves-on l whole a v e, e)
+      (in_order (eqb place SR3) (left_on (word l SR0) place v) (ltb place 48) (ltb place 96) (non_resident (key_of old))
+      (widens_par (word l (PDR place)) old v) (eqb (ed_of v) (ed_of old)) (keeps_blocks old v) (keeps_rights (key_of old) (key_of v)))
+  by_address false e = rw (accepted-write l whole a v, e)
+
+  -- a write to no register, and to one
+  pub write_nowhere : place_at a ≡ None → broken_by l (Write a v) ≡ None
+  unfolding place_at
+  write_nowhere h = at (is_register a) refl
+    where
+      at : (g : Bool) → is_register a ≡ g → broken_by l (Write a v) ≡ None
+      at true e = let k : Some (register_at a) ≡ None = rw e at h in cc
+      at false e = by_address false e
+
+  pub write_somewhere : (place : ℕ) → place_at a ≡ Some place → broken_by l (Write a v) ≡ place_verdict l place v
+  unfolding place_at
+  write_somewhere place h = at (is_register a) refl
+    where
+      at : (g : Bool) → is_register a ≡ g → broken_by l (Write a v) ≡ place_verdict l place v
+      at true e = let k : Some (register_at a) ≡ Some place = rw e at h in let p : register_at a ≡ place = cc in rw (← p) (by_address true e)
+      at false e = let k : None ≡ Some place = rw e at h in cc

@@ -2,16 +2,17 @@
 
 #![tactic(auto)]
 
-ghost use Rattle.std.specs.Prelude.{◌≡◌, ◌<◌, length};
+ghost use Rattle.std.specs.Prelude.{◌≡◌};
 ghost use Rattle.rules.specs.Keys.{key_of, non_resident};
 ghost use Rattle.widening.specs.Widens.{keeps_blocks, keeps_rights};
-ghost use Rattle.auditing.specs.Verdicts.{verdict_of};
+ghost use Rattle.auditing.specs.Verdicts.{verdict_of, broken_by};
 ghost use Rattle.auditing.specs.Places.{left_on, par_verdict, pdr_verdict, place_verdict};
 
-use rules::{Event, Refusal};
+use decode::{SR0, SR3};
+use rules::{Event, Refusal, Store};
 
 // The premises of demand 3 on a step, in their order.
-#[derive(Clone, Copy)]
+#[derive(Clone, Copy, Debug, PartialEq, Eq)]
 pub enum Reason {
     // INIT
     Init,
@@ -27,19 +28,12 @@ pub enum Reason {
     LosesRights,
 }
 
-#[derive(Clone, Copy)]
-pub enum Verdict {
-    Permitted,
-    Breaks(Reason),
-    Refused(Refusal),
-}
-
 // The key of a PDR is 0, 3 or 7.
+#[tactic(auto, using(ruling::proofs::Keys::absent))]
 fn absent(pdr: u16) -> bool
     ensures { result ≡ non_resident (key_of pdr) }
 {
-    let right = ruling::right_of(pdr);
-    !right.read
+    !ruling::right_of(pdr).read
 }
 
 // The length field is no smaller (ED 0) or no larger (ED 1).
@@ -54,101 +48,94 @@ fn keeps_blocks(old: u16, new: u16) -> bool
 }
 
 // The new key has at least the old rights.
+#[tactic(auto, unfolding(rules::specs::Keys::right_of))]
 fn keeps_rights(old: u16, new: u16) -> bool
     ensures { result ≡ keeps_rights (key_of old) (key_of new) }
 {
     let had = ruling::right_of(old);
     let has = ruling::right_of(new);
-    (!had.read | has.read) & (!had.write | has.write)
+    (!had.read || has.read) && (!had.write || has.write)
 }
 
 // A PAR write, given the page's PDR.
 #[tactic(auto, unfolding(widening::specs::Widens::widens_par))]
-fn judge_par(pdr: u16, old: u16, new: u16) -> Verdict
+fn judge_par(pdr: u16, old: u16, new: u16) -> Option<Reason>
     ensures { result ≡ par_verdict pdr old new }
 {
-    if absent(pdr) {
-        return Verdict::Permitted;
+    if absent(pdr) || new % 4096 == old % 4096 {
+        None
+    } else {
+        Some(Reason::ChangesPar)
     }
-    if new % 4096 == old % 4096 {
-        return Verdict::Permitted;
-    }
-    Verdict::Breaks(Reason::ChangesPar)
 }
 
 // A PDR write.
-fn judge_pdr(old: u16, new: u16) -> Verdict
+fn judge_pdr(old: u16, new: u16) -> Option<Reason>
     ensures { result ≡ pdr_verdict old new }
 {
     if absent(old) {
-        return Verdict::Permitted;
+        None
+    } else if new / 8 % 2 != old / 8 % 2 {
+        Some(Reason::ChangesEd)
+    } else if !keeps_blocks(old, new) {
+        Some(Reason::Narrows)
+    } else if !keeps_rights(old, new) {
+        Some(Reason::LosesRights)
+    } else {
+        None
     }
-    if new / 8 % 2 != old / 8 % 2 {
-        return Verdict::Breaks(Reason::ChangesEd);
-    }
-    if !keeps_blocks(old, new) {
-        return Verdict::Breaks(Reason::Narrows);
-    }
-    if !keeps_rights(old, new) {
-        return Verdict::Breaks(Reason::LosesRights);
-    }
-    Verdict::Permitted
 }
 
 // SR0 bit 0 after the write.
 fn left_on(sr0: u16, place: usize, value: u16) -> bool
     ensures { result ≡ left_on sr0 place value }
 {
-    if place == 96 {
-        value % 2 == 1
-    } else {
-        sr0 % 2 == 1
-    }
+    let word = if place == SR0 { value } else { sr0 };
+    word % 2 == 1
 }
 
 // A write to the register at a place; a PAR and a PDR go by the page number.
-fn judge_place(s: &[u16], place: usize, value: u16) -> Verdict
-    requires { (length s.now ≡ 100) × (place < 100) }
-    ensures { result ≡ place_verdict s.now place value }
+#[tactic(auto, unfolding(crate::specs::Places::place_verdict))]
+fn judge_place(store: &Store, place: usize, value: u16) -> Option<Reason>
+    ensures { result ≡ place_verdict store.now place value }
 {
-    if place == 99 {
-        return Verdict::Breaks(Reason::WritesSr3);
+    if place == SR3 {
+        return Some(Reason::WritesSr3);
     }
-    if !left_on(s[96], place, value) {
-        return Verdict::Breaks(Reason::RelocationOff);
+    if !left_on(store[SR0], place, value) {
+        return Some(Reason::RelocationOff);
     }
-    if place < 48 {
-        return judge_par(s[48 + place], s[place], value);
+    match place {
+        0..48 => judge_par(store[48 + place], store[place], value),
+        48..96 => judge_pdr(store[place], value),
+        _ => None,
     }
-    if place < 96 {
-        return judge_pdr(s[place], value);
-    }
-    Verdict::Permitted
 }
 
-// Whether demand 3 permits a step from this store, or the first of its premises that the step breaks.
-pub fn widens(s: &[u16], e: Event) -> Verdict
-    ensures { result ≡ verdict_of s.now e }
+// The first premise that a step breaks; a refused event breaks none.
+#[tactic(auto, using(crate::proofs::Writes::write_nowhere, crate::proofs::Writes::write_somewhere, crate::proofs::Permitted::quiet, crate::proofs::Permitted::init_breaks))]
+fn judge(store: &Store, e: Event) -> Option<Reason>
+    ensures { result ≡ broken_by store.now e }
 {
-    if s.len() != 100 {
-        return Verdict::Refused(Refusal::Store);
-    }
     match e {
         Event::Write { address, value } => {
-            let place = decode::register_at(address);
-            if 100 <= place {
-                return Verdict::Permitted;
-            }
-            judge_place(s, place, value)
+            let place = decode::register_at(address)?;
+            judge_place(store, place, value)
         }
-        Event::Init => Verdict::Breaks(Reason::Init),
-        Event::Refer(_) => Verdict::Permitted,
-        Event::Read { address: _ } => Verdict::Permitted,
-        Event::Instruction { va: _ } => Verdict::Permitted,
-        Event::Interrupt { vector: _ } => Verdict::Permitted,
-        Event::Change {
-            register: _,
-            amount: _,
-        } => Verdict::Permitted,
+        Event::Init => Some(Reason::Init),
+        Event::Refer(_)
+        | Event::Read { .. }
+        | Event::Instruction { .. }
+        | Event::Interrupt { .. }
+        | Event::Change { .. } => None,
     }
+}
+
+// The first premise of demand 3 that a step from this store breaks, none where it is permitted; refused by 1.
+#[tactic(auto, unfolding(crate::specs::Verdicts::verdict_of))]
+pub fn widens(s: &[u16], e: Event) -> Result<Option<Reason>, Refusal>
+    ensures { result ≡ verdict_of s.now e }
+{
+    let store = <&Store>::try_from(s).map_err(|_| Refusal::Store)?;
+    Ok(judge(store, e))
 }

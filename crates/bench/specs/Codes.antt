@@ -4,6 +4,7 @@ use Rattle.rules.specs.Paper.{number}
 use Rattle.rules.specs.declared.Reference.{Reference}
 use Rattle.rules.specs.declared.Event.{Event}
 use Rattle.rules.specs.declared.Event.TheVariants.{Refer, Read, Write, Instruction, Interrupt, Change, Init}
+use Rattle.records.specs.Records.{Found}
 use Rattle.rules.specs.Refusals.{lowest}
 use Rattle.writer.specs.Writing.{Said, Used, X, large}
 use Rattle.trips.specs.Trips.{Held}

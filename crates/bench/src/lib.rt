@@ -12,17 +12,15 @@ ghost use Rattle.writer.specs.Writing.{write};
 ghost use Rattle.reader.specs.Reading.{place_after};
 ghost use Rattle.bench.specs.Codes.{reference_of, coded, found_code};
 
-use records::Found;
 use rules::{Event, Reference};
-use writer::Wrote;
 
 // Appends an event's record.
 fn record(buffer: &mut [u8], used: usize, event: Event) -> u32
     ensures { (result, buffer.new) ≡ coded used (write buffer.old used event) }
 {
     match writer::write(buffer, used, event) {
-        Wrote::Upto(next) => 0x60000000 + (next - used) as u32,
-        Wrote::Refused(refusal) => 0x50000000 + rules::number(refusal),
+        Ok(next) => 0x60000000 + (next - used) as u32,
+        Err(refusal) => 0x50000000 + u32::from(refusal),
     }
 }
 
@@ -91,9 +89,9 @@ pub fn kt11c_event_at(recording: &[u8], at: usize) -> u64
     ensures { result ≡ found_code (record_at recording.now at) }
 {
     match reader::read(recording, at) {
-        Found::Whole(event, _) => codes::event_code(event),
-        Found::Refused(refusal) => 0x5000000000000000 + rules::number(refusal) as u64,
-        Found::End => 0,
+        Ok(Some((event, _))) => codes::event_code(event),
+        Ok(None) => 0,
+        Err(refusal) => 0x5000000000000000 + u64::from(u32::from(refusal)),
     }
 }
 

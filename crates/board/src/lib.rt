@@ -9,43 +9,40 @@ ghost use Rattle.rules.specs.Step.{step};
 ghost use Rattle.rules.specs.declared.Event.TheVariants.{Refer, Read, Write, Instruction, Interrupt, Change, Init};
 ghost use Rattle.board.specs.Codes.{Small, six_bits, code_of, coded, reference_of};
 
-use rules::{Answer, Reference, Served};
+use rules::{Answer, Reference, Refusal};
 
 // What goes to bits 23:18: the place of the page that served, or 63 for none. `Small` says that it has room there.
-fn six_bits(served: Served) -> u32
+fn six_bits(served: Option<u8>) -> u32
     ensures { (result ≡ six_bits served) × (result ≤ 255) }
 {
     match served {
-        Served::Page(place) => place as u32,
-        Served::None => 63,
+        Some(place) => u32::from(place),
+        None => 63,
     }
 }
 
-// An answer as one number.
-fn code(a: Answer) -> u32
+// An answer or a refusal as one number.
+fn code(a: Result<Answer, Refusal>) -> u32
     requires { Small (paper a) }
     ensures { result ≡ code_of (paper a) }
 {
     match a {
-        Answer::Granted { byte, trap, served } => {
-            0x10000000
-                + ruling::bit(trap) as u32 * 0x01000000
-                + six_bits(served) * 0x00040000
-                + byte
+        Ok(Answer::Granted { byte, trap, served }) => {
+            0x10000000 + u32::from(trap) * 0x01000000 + six_bits(served) * 0x00040000 + byte
         }
-        Answer::Aborted {
+        Ok(Answer::Aborted {
             nonresident,
             length,
             readonly,
-        } => {
+        }) => {
             0x20000000
-                + ruling::bit(nonresident) as u32 * 4
-                + ruling::bit(length) as u32 * 2
-                + ruling::bit(readonly) as u32
+                + u32::from(nonresident) * 4
+                + u32::from(length) * 2
+                + u32::from(readonly)
         }
-        Answer::Word(w) => 0x30000000 + w as u32,
-        Answer::Done => 0x40000000,
-        Answer::Refused(r) => 0x50000000 + rules::number(r),
+        Ok(Answer::Word(w)) => 0x30000000 + u32::from(w),
+        Ok(Answer::Done) => 0x40000000,
+        Err(refusal) => 0x50000000 + u32::from(refusal),
     }
 }
 

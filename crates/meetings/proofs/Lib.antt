@@ -1,6 +1,7 @@
 pub mod First
-pub mod Allowed
+pub mod Ranges
 pub mod Turns
+pub mod Modes
 pub mod Tracks
 pub mod Passes
 pub mod Seconds

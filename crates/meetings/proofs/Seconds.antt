@@ -5,8 +5,8 @@ use mathlib.Core.Bool.{Bool, true, false, cond, ◌||◌}
 use mathlib.Core.List.{List}
 use Prim.Native.Nat.{ℕ, zero, suc, ◌+◌, ◌*◌, ◌/◌, ◌≤◌, ◌<◌}
 use native.Mathlib.Omega.{arith}
-use lib.Dec.{eqb}
 use borrow.Author.Tests.{eq-eqb, ne_eqb, ltb-true}
+use Rattle.std.proofs.Common.{Some, None}
 use Rattle.rules.specs.Words.{word, SR3, enables_d}
 use Rattle.rules.specs.References.{first_page}
 use Rattle.widening.specs.Some.{some}
@@ -14,7 +14,7 @@ use Rattle.widening.specs.Reaches.{page_reaches, pages_of}
 use Rattle.meetings.specs.Firsts.{first_of}
 use Rattle.meetings.specs.Parting.{lowest_page}
 use Rattle.meetings.proofs.First.{first_some}
-use Rattle.meetings.proofs.Tracks.{Two, seeing}
+use Rattle.meetings.proofs.Tracks.{Two, neither, seeing}
 use Rattle.meetings.proofs.Passes.{passing}
 
 -- the first that passes is in its range
@@ -42,57 +42,51 @@ module _ (l : List ℕ) (x : ℕ) where
       at true = h page (omega arith) (omega arith)
       at false = refl
 
-  -- the mode of the first page, and a block that has both
-  own_mode : (p f s : ℕ) → (f ≡ 48 → ⊥) → f / 16 ≡ p / 16 → seeing p (f, s) ≡ (f, s)
+  -- a block that has both, through any pages
+  full : (page n f s : ℕ) → passing l x page n (Some f, Some s) ≡ (Some f, Some s)
   unfolding seeing
-  own_mode p f s o m = rw (ne_eqb f 48 o, eq-eqb (f / 16) (p / 16) m)
+  full page n f s = kept page n (Some f, Some s) (λ p u v. refl)
 
-  settled : (p f s : ℕ) → (f ≡ 48 → ⊥) → (s ≡ 48 → ⊥) → seeing p (f, s) ≡ (f, s)
+  -- the mode of the first page
+  own_mode : (p f : ℕ) → f / 16 ≡ p / 16 → seeing p (Some f, None) ≡ (Some f, None)
   unfolding seeing
-  settled p f s o z = rw (ne_eqb f 48 o, ne_eqb s 48 z) (at (eqb (f / 16) (p / 16)))
-    where
-      at : (b : Bool) → ◌≡◌ {A = Two} (f, cond b s s) (f, s)
-      at true = refl
-      at false = refl
+  own_mode p f m = rw (eq-eqb (f / 16) (p / 16) m)
 
   -- a mode's pages, where the block has no first yet, and where its first is of another mode
-  fresh : (k page n : ℕ) → 16 * k ≤ page → page + n ≤ 16 * k + 16 → k < 3
-      → passing l x page n (48, 48) ≡ cond (some (page_reaches l x) page n) (first_of (page_reaches l x) page n, 48) (48, 48)
+  fresh : (k page n : ℕ) → 16 * k ≤ page → page + n ≤ 16 * k + 16
+      → passing l x page n neither ≡ cond (some (page_reaches l x) page n) (Some (first_of (page_reaches l x) page n), None) neither
   unfolding passing seeing
-  fresh k page zero a b c = refl
-  fresh k page (suc n) a b c = at (page_reaches l x page) refl (fresh k (suc page) n)
+  fresh k page zero a b = refl
+  fresh k page (suc n) a b = at (page_reaches l x page) refl (fresh k (suc page) n)
     where
-      at : (r : Bool) → page_reaches l x page ≡ r → (16 * k ≤ suc page → suc page + n ≤ 16 * k + 16 → k < 3
-          → passing l x (suc page) n (48, 48) ≡ cond (some (page_reaches l x) (suc page) n) (first_of (page_reaches l x) (suc page) n, 48) (48, 48))
-          → passing l x (suc page) n (cond (page_reaches l x page) (seeing page (48, 48)) (48, 48))
+      at : (r : Bool) → page_reaches l x page ≡ r → (16 * k ≤ suc page → suc page + n ≤ 16 * k + 16
+          → passing l x (suc page) n neither ≡ cond (some (page_reaches l x) (suc page) n) (Some (first_of (page_reaches l x) (suc page) n), None) neither)
+          → passing l x (suc page) n (cond (page_reaches l x page) (seeing page neither) neither)
           ≡ cond (page_reaches l x page || some (page_reaches l x) (suc page) n)
-          (cond (page_reaches l x page) page (first_of (page_reaches l x) (suc page) n), 48) (48, 48)
-      at true e r = rw e (kept (suc page) n (page, 48) (λ p u v. own_mode p page 48 (λ q. omega arith) (omega arith)))
-      at false e r = rw e (r (omega arith) (omega arith) c)
+          (Some (cond (page_reaches l x page) page (first_of (page_reaches l x) (suc page) n)), None) neither
+      at true e r = rw e (kept (suc page) n (Some page, None) (λ p u v. own_mode p page (omega arith)))
+      at false e r = rw e (r (omega arith) (omega arith))
 
-  other : (k page n f : ℕ) → 16 * k ≤ page → page + n ≤ 16 * k + 16 → k < 3 → (f ≡ 48 → ⊥) → (f / 16 ≡ k → ⊥)
-      → passing l x page n (f, 48) ≡ (f, cond (some (page_reaches l x) page n) (first_of (page_reaches l x) page n) 48)
+  other : (k page n f : ℕ) → 16 * k ≤ page → page + n ≤ 16 * k + 16 → (f / 16 ≡ k → ⊥)
+      → passing l x page n (Some f, None)
+      ≡ (Some f, cond (some (page_reaches l x) page n) (Some (first_of (page_reaches l x) page n)) None)
   unfolding passing seeing
-  other k page zero f a b c o d = refl
-  other k page (suc n) f a b c o d = at (page_reaches l x page) refl (other k (suc page) n f)
+  other k page zero f a b d = refl
+  other k page (suc n) f a b d = at (page_reaches l x page) refl (other k (suc page) n f)
     where
-      at : (r : Bool) → page_reaches l x page ≡ r → (16 * k ≤ suc page → suc page + n ≤ 16 * k + 16 → k < 3 → (f ≡ 48 → ⊥) → (f / 16 ≡ k → ⊥)
-          → passing l x (suc page) n (f, 48) ≡ (f, cond (some (page_reaches l x) (suc page) n) (first_of (page_reaches l x) (suc page) n) 48))
-          → passing l x (suc page) n (cond (page_reaches l x page) (seeing page (f, 48)) (f, 48))
+      at : (r : Bool) → page_reaches l x page ≡ r → (16 * k ≤ suc page → suc page + n ≤ 16 * k + 16 → (f / 16 ≡ k → ⊥)
+          → passing l x (suc page) n (Some f, None)
+          ≡ (Some f, cond (some (page_reaches l x) (suc page) n) (Some (first_of (page_reaches l x) (suc page) n)) None))
+          → passing l x (suc page) n (cond (page_reaches l x page) (seeing page (Some f, None)) (Some f, None))
           ≡ (
-            f,
+            Some f,
             cond (page_reaches l x page || some (page_reaches l x) (suc page) n)
-                (cond (page_reaches l x page) page (first_of (page_reaches l x) (suc page) n)) 48,
+                (Some (cond (page_reaches l x page) page (first_of (page_reaches l x) (suc page) n))) None,
           )
       at true e r =
           let m : page / 16 ≡ k = omega arith in
-          rw (e, ne_eqb f 48 o, ne_eqb (f / 16) (page / 16) (λ q. d (q ∙ m)))
-          (kept (suc page) n (f, page) (λ p u v. settled p f page o (λ q. omega arith)))
-      at false e r = rw e (r (omega arith) (omega arith) c o d)
-
-  -- a block that has both, through any pages
-  full : (page n f s : ℕ) → (f ≡ 48 → ⊥) → (s ≡ 48 → ⊥) → passing l x page n (f, s) ≡ (f, s)
-  full page n f s o z = kept page n (f, s) (λ p u v. settled p f s o z)
+          rw (e, ne_eqb (f / 16) (page / 16) (λ q. d (q ∙ m))) (full (suc page) n f page)
+      at false e r = rw e (r (omega arith) (omega arith) d)
 
   -- how many pages of a mode
   abbrev pub pages : ℕ → ℕ
@@ -112,13 +106,13 @@ module _ (l : List ℕ) (x : ℕ) where
   low mode = lowest_page l x mode
 
   -- the whole of a mode; the modes' pages begin at 0, 16 and 32
-  fresh-mode : (k mode : ℕ) → first_page mode ≡ 16 * k → k < 3
-      → passing l x (first_page mode) (pages mode) (48, 48) ≡ cond (reached mode) (low mode, 48) (48, 48)
-  fresh-mode k mode e h = let n = pages-few mode in fresh k (first_page mode) (pages mode) (omega arith) (omega arith) h
+  fresh-mode : (k mode : ℕ) → first_page mode ≡ 16 * k
+      → passing l x (first_page mode) (pages mode) neither ≡ cond (reached mode) (Some (low mode), None) neither
+  fresh-mode k mode e = let n = pages-few mode in fresh k (first_page mode) (pages mode) (omega arith) (omega arith)
 
-  other-mode : (k mode f : ℕ) → first_page mode ≡ 16 * k → k < 3 → (f ≡ 48 → ⊥) → (f / 16 ≡ k → ⊥)
-      → passing l x (first_page mode) (pages mode) (f, 48) ≡ (f, cond (reached mode) (low mode) 48)
-  other-mode k mode f e h o d = let n = pages-few mode in other k (first_page mode) (pages mode) f (omega arith) (omega arith) h o d
+  other-mode : (k mode f : ℕ) → first_page mode ≡ 16 * k → (f / 16 ≡ k → ⊥)
+      → passing l x (first_page mode) (pages mode) (Some f, None) ≡ (Some f, cond (reached mode) (Some (low mode)) None)
+  other-mode k mode f e d = let n = pages-few mode in other k (first_page mode) (pages mode) f (omega arith) (omega arith) d
 
   low_in : (k mode : ℕ) → first_page mode ≡ 16 * k → reached mode ≡ true → low mode / 16 ≡ k
   low_in k mode e h =
@@ -129,25 +123,31 @@ module _ (l : List ℕ) (x : ℕ) where
 
   -- the two of a block after Kernel, Supervisor and User
   abbrev pub two_at : Two
-  two_at = passing l x 32 (pages 3) (passing l x 16 (pages 1) (passing l x 0 (pages 0) (48, 48)))
+  two_at = passing l x 32 (pages 3) (passing l x 16 (pages 1) (passing l x 0 (pages 0) neither))
 
   -- a, b and c: Kernel, Supervisor and User reach it
   abbrev pub two_of : Bool → Bool → Bool → Two
-  two_of a b c = cond a (low 0, cond b (low 1) (cond c (low 3) 48)) (cond b (low 1, cond c (low 3) 48) (cond c (low 3, 48) (48, 48)))
+  two_of a b c =
+      let user = cond c (Some (low 3)) None in
+      cond a (Some (low 0), cond b (Some (low 1)) user) (cond b (Some (low 1), user) (user, None))
 
   pub two_modes : two_at ≡ two_of (reached 0) (reached 1) (reached 3)
-  two_modes = rw (fresh-mode 0 0 refl (omega arith)) (at (reached 0) (reached 1) refl refl)
+  two_modes = rw (fresh-mode 0 0 refl) (at (reached 0) (reached 1) refl refl)
     where
+      user : (c : Bool) → ◌≡◌ {A = Two} (cond c (Some (low 3), None) neither) (cond c (Some (low 3)) None, None)
+      user true = refl
+      user false = refl
+
+      next : (b : Bool) → reached 1 ≡ b → low 0 / 16 ≡ 0
+          → passing l x 32 (pages 3) (Some (low 0), cond (reached 1) (Some (low 1)) None)
+          ≡ (Some (low 0), cond (reached 1) (Some (low 1)) (cond (reached 3) (Some (low 3)) None))
+      next true f p = rw f (full 32 (pages 3) (low 0) (low 1))
+      next false f p = rw f (other-mode 2 3 (low 0) refl (λ z. omega arith))
+
       at : (a b : Bool) → reached 0 ≡ a → reached 1 ≡ b
-          → passing l x 32 (pages 3) (passing l x 16 (pages 1) (cond (reached 0) (low 0, 48) (48, 48))) ≡ two_of (reached 0) (reached 1) (reached 3)
-      at true b e f = let p = low_in 0 0 refl e in rw (e, other-mode 1 1 (low 0) refl (omega arith) (λ z. omega arith) (λ z. omega arith))
-          (next b f p)
-        where
-          next : (b : Bool) → reached 1 ≡ b → low 0 / 16 ≡ 0
-              → passing l x 32 (pages 3) (low 0, cond (reached 1) (low 1) 48) ≡ (low 0, cond (reached 1) (low 1) (cond (reached 3) (low 3) 48))
-          next true f p = let q = low_in 1 1 refl f in rw f (full 32 (pages 3) (low 0) (low 1) (λ z. omega arith) (λ z. omega arith))
-          next false f p = rw f (other-mode 2 3 (low 0) refl (omega arith) (λ z. omega arith) (λ z. omega arith))
+          → passing l x 32 (pages 3) (passing l x 16 (pages 1) (cond (reached 0) (Some (low 0), None) neither)) ≡ two_of (reached 0) (reached 1) (reached 3)
+      at true b e f = let p = low_in 0 0 refl e in rw (e, other-mode 1 1 (low 0) refl (λ z. omega arith)) (next b f p)
       at false true e f =
           let q = low_in 1 1 refl f in
-          rw (e, fresh-mode 1 1 refl (omega arith), f) (other-mode 2 3 (low 1) refl (omega arith) (λ z. omega arith) (λ z. omega arith))
-      at false false e f = rw (e, fresh-mode 1 1 refl (omega arith), f) (fresh-mode 2 3 refl (omega arith))
+          rw (e, fresh-mode 1 1 refl, f) (other-mode 2 3 (low 1) refl (λ z. omega arith))
+      at false false e f = rw (e, fresh-mode 1 1 refl, f) (fresh-mode 2 3 refl ∙ user (reached 3))

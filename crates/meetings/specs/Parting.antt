@@ -1,13 +1,13 @@
 -- The answer whether the modes are apart: the lowest block that two modes share, and of the modes that reach it the two lowest,
 -- each with its lowest page that does.
-use Rattle.std.specs.Prelude.{◌≡◌, ◌↔◌, true, cond, List, ℕ, eqb, ltb, length}
+use Rattle.std.specs.Prelude.{◌≡◌, ◌↔◌, true, cond, List, ℕ, eqb, ltb, length, Result, Ok, Err, Some, None}
+use Rattle.std.specs.declared.option.Option.{Option}
 use Rattle.rules.specs.Words.{word, SR3}
 use Rattle.rules.specs.References.{first_page}
+use Rattle.rules.specs.declared.Refusal.{Refusal}
 use Rattle.rules.specs.declared.Refusal.TheVariants.{Store}
 use Rattle.widening.specs.Reaches.{page_reaches, pages_of, reaches, shared, apart}
 use Rattle.meetings.specs.declared.Meeting.{Meeting}
-use Rattle.meetings.specs.declared.Parting.{Parting as Answer}
-use Rattle.meetings.specs.declared.Parting.TheVariants.{Apart, Shared, Refused}
 use Rattle.meetings.specs.Firsts.{first_of}
 
 -- a mode's lowest page that reaches a block
@@ -24,15 +24,11 @@ meeting_at l block =
     (cond (reaches l 1 block) (meeting_of l block 0 1) (meeting_of l block 0 3))
     (meeting_of l block 1 3)
 
-unfoldable pub parting_of : List ℕ → Answer
+unfoldable pub parting_of : List ℕ → Result (Option Meeting) Refusal
 parting_of l =
     let block = first_of (shared l) 0 4096 in
-    cond (eqb (length l) 100) (cond (ltb block 4096) (Shared (meeting_at l block)) Apart) (Refused Store)
+    cond (eqb (length l) 100) (Ok (cond (ltb block 4096) (Some (meeting_at l block)) None)) (Err Store)
 
--- what a pass found: 4096 is no block
-abbrev pub answer : Meeting → Answer
-answer m = cond (ltb m.block 4096) (Shared m) Apart
-
--- "apart" is answered exactly if the store is whole and no two modes reach a common block
+-- no meeting is answered exactly if the store is whole and no two modes reach a common block
 abbrev pub ApartIs : Type 0
-ApartIs = (l : List ℕ) → (parting_of l ≡ Apart) ↔ ((length l ≡ 100) × (apart l ≡ true))
+ApartIs = (l : List ℕ) → (parting_of l ≡ Ok None) ↔ ((length l ≡ 100) × (apart l ≡ true))

@@ -1,5 +1,6 @@
 -- One pass over the pages that the modes may use, in store order. That it finds the lowest shared block is shown in proofs/.
-use Rattle.std.specs.Prelude.{cond, List, ℕ, zero, suc, ◌+◌, ◌-◌, ◌/◌, eqb, ltb, get_or, set, replicate}
+use Rattle.std.specs.Prelude.{Bool, true, cond, List, ℕ, zero, suc, ◌+◌, ◌-◌, ◌/◌, eqb, ltb, get_or, set, replicate, None, Some}
+use Rattle.std.specs.declared.option.Option.{Option}
 use Rattle.page.specs.Fields.{ed_of, length_of}
 use Rattle.page.specs.Sum.{memory_block}
 use Rattle.rules.specs.Keys.{key_of, non_resident}
@@ -7,21 +8,25 @@ use Rattle.rules.specs.Words.{word, PDR, SR3}
 use Rattle.rules.specs.References.{first_page}
 use Rattle.widening.specs.Reaches.{pages_of}
 use Rattle.meetings.specs.declared.Meeting.{Meeting}
+use Rattle.meetings.specs.declared.Pass.{Pass}
 
--- each block's owner, 48 for none, and the lowest meeting so far, at block 4096 for none
-abbrev pub Pass : Type 0
-Pass = List ℕ × Meeting
+-- a block lies below the lowest meeting so far, if there is one
+abbrev pub is_below : ℕ → Option Meeting → Bool
+is_below block None = true
+is_below block (Some lowest) = ltb block lowest.block
 
--- an owner of the block is met by a page: a meeting of two modes, if it is the lowest
-abbrev pub met : ℕ → ℕ → ℕ → Meeting → Meeting
-met owner page block lowest =
-    cond (eqb (owner / 16) (page / 16)) lowest
-    (cond (ltb block lowest.block) (record { block = block; first = owner; second = page }) lowest)
+-- a meeting of two modes is kept if it is the lowest
+unfoldable pub met : Meeting → Pass → Pass
+met m s = cond (is_below m.block s.lowest) (record { owners = s.owners; lowest = Some m }) s
+
+-- a page reaches a block that has an owner or none: it becomes its owner, or meets one of its own mode, or one of another
+abbrev pub sighted_by : Option ℕ → ℕ → ℕ → Pass → Pass
+sighted_by None page block s = record { owners = set s.owners block (Some page); lowest = s.lowest }
+sighted_by (Some owner) page block s =
+    cond (eqb (owner / 16) (page / 16)) s (met (record { block = block; first = owner; second = page }) s)
 
 unfoldable pub sighted : ℕ → ℕ → Pass → Pass
-sighted page block s =
-    let owner = get_or s.0 block 0 in
-    cond (eqb owner 48) (set s.0 block page, s.1) (s.0, met owner page block s.1)
+sighted page block s = sighted_by (get_or s.owners block None) page block s
 
 -- n blocks of a page from b on
 unfoldable pub blocks_pass : ℕ → ℕ → ℕ → ℕ → Pass → Pass
@@ -47,7 +52,7 @@ abbrev pub mode_pass : List ℕ → ℕ → Pass → Pass
 mode_pass l mode s = pages_pass l (first_page mode) (pages_of (word l SR3) mode) s
 
 abbrev pub start : Pass
-start = (replicate 4096 48, record { block = 4096; first = 48; second = 48 })
+start = record { owners = replicate 4096 None; lowest = None }
 
 -- Kernel, then Supervisor, then User
 unfoldable pub whole_pass : List ℕ → Pass

@@ -3,148 +3,124 @@
 
 #![tactic(auto)]
 
-ghost use Rattle.std.specs.Prelude.{◌≡◌, ◌-◌, ◌<◌, ◌≤◌, length};
-ghost use Rattle.meetings.specs.Parting.{parting_of, answer};
-ghost use Rattle.meetings.specs.Pass.{first_block, end_block, sighted, blocks_pass, page_pass, pages_pass};
+ghost use Rattle.std.specs.Prelude.{◌≡◌, ◌<◌, ◌≤◌};
+ghost use Rattle.rules.specs.Modes.{mode_number};
+ghost use Rattle.meetings.specs.Parting.{parting_of};
+ghost use Rattle.meetings.specs.Pass.{first_block, end_block, met, sighted, page_pass, mode_pass, whole_pass};
 
-use rules::Refusal;
+use rules::{Mode, Refusal, Store};
+use std::ops::Range;
 
 // A block that two modes reach, and a page of each, by its place among the 48.
-#[derive(Clone, Copy)]
+#[derive(Clone, Copy, Debug, PartialEq, Eq)]
 pub struct Meeting {
     pub block: u16,
     pub first: u8,
     pub second: u8,
 }
 
-// Whether the modes are apart, or the lowest block that two of them share.
-#[derive(Clone, Copy)]
-pub enum Parting {
-    Apart,
-    Shared(Meeting),
-    Refused(Refusal),
+// The blocks of memory.
+const BLOCKS: usize = 4096;
+
+// What the pages so far showed: each block's owner, if it has one, and the lowest meeting.
+#[derive(Drop)]
+struct Pass {
+    owners: [Option<u8>; BLOCKS],
+    lowest: Option<Meeting>,
 }
 
-// No page owns the block.
-const NONE: u8 = 48;
-
-// A page is seen to reach a block: it becomes its owner, or meets one of its own mode, or one of another.
-#[tactic(auto, unfolding(crate::specs::Pass::sighted))]
-fn sight(owners: &mut [u8], lowest: Meeting, page: u8, block: u16) -> Meeting
-    requires { (length owners.old ≡ 4096) × (block < 4096) }
-    ensures { (owners.new, result) ≡ sighted page block (owners.old, lowest) }
+// The allowed blocks of a page: 0 to the length field (ED 0), or the length field to 127 (ED 1).
+fn allowed(pdr: u16) -> Range<u16>
+    ensures { (result.start ≡ first_block pdr) × (result.end ≡ end_block pdr) × (result.start ≤ result.end) × (result.end ≤ 128) }
 {
-    let at = block as usize;
-    let owner = owners[at];
-    if owner == NONE {
-        owners[at] = page;
-        return lowest;
+    let length = pdr / 256 % 128;
+    if pdr / 8 % 2 == 0 {
+        0..length + 1
+    } else {
+        length..128
     }
-    if owner / 16 == page / 16 {
-        return lowest;
+}
+
+impl Pass {
+    // A page is seen to reach a block: it becomes its owner, or meets one of its own mode, or one of another.
+    #[tactic(auto, unfolding(crate::specs::Pass::sighted))]
+    fn sight(&mut self, page: u8, block: u16)
+        requires { block < 4096 }
+        ensures { self.new ≡ sighted page block self.old }
+    {
+        let at = usize::from(block);
+        match self.owners[at] {
+            None => self.owners[at] = Some(page),
+            Some(owner) => {
+                if owner / 16 != page / 16 {
+                    self.meet(Meeting {
+                        block,
+                        first: owner,
+                        second: page,
+                    });
+                }
+            }
+        }
     }
-    if block < lowest.block {
-        return Meeting {
-            block,
-            first: owner,
-            second: page,
+
+    // A meeting of two modes: the lowest, unless one at this block or below it came before.
+    #[tactic(auto, unfolding(crate::specs::Pass::met))]
+    fn meet(&mut self, meeting: Meeting)
+        ensures { self.new ≡ met meeting self.old }
+    {
+        match self.lowest {
+            Some(lowest) if lowest.block <= meeting.block => {}
+            _ => self.lowest = Some(meeting),
+        }
+    }
+
+    // A page, given its PAR and PDR: each of its allowed blocks, if it is resident.
+    #[tactic(auto, using(crate::proofs::Turns::blocks_next, crate::proofs::Turns::blocks_over), unfolding(crate::specs::Pass::page_pass, rules::specs::Keys::right_of))]
+    fn sight_page(&mut self, page: u8, par: u16, pdr: u16)
+        ensures { self.new ≡ page_pass page par pdr self.old }
+    {
+        if !ruling::right_of(pdr).read {
+            return;
+        }
+        let blocks = allowed(pdr);
+        for b in blocks.start..blocks.end {
+            self.sight(page, (par % 4096 + b) % 4096);
+        }
+    }
+
+    // The pages that a mode may use.
+    #[tactic(auto, using(crate::proofs::Turns::pages_next, crate::proofs::Turns::pages_over))]
+    fn sight_mode(&mut self, store: &Store, mode: Mode)
+        ensures { self.new ≡ mode_pass store.now (mode_number mode) self.old }
+    {
+        let first = mode.first_page();
+        let end = first + reach::pages(mode, store[99]);
+        for page in first..end {
+            self.sight_page(page as u8, store[page], store[48 + page]);
+        }
+    }
+
+    // The pages of every mode.
+    #[tactic(auto, using(crate::proofs::Modes::modes_first, crate::proofs::Modes::modes_next, crate::proofs::Modes::modes_over))]
+    fn over(store: &Store) -> Pass
+        ensures { result ≡ whole_pass store.now }
+    {
+        let mut pass = Pass {
+            owners: [None; BLOCKS],
+            lowest: None,
         };
+        for mode in [Mode::Kernel, Mode::Supervisor, Mode::User] {
+            pass.sight_mode(store, mode);
+        }
+        pass
     }
-    lowest
 }
 
-// The blocks of a page from first on, before end.
-fn sight_blocks(
-    owners: &mut [u8],
-    lowest: Meeting,
-    page: u8,
-    par: u16,
-    first: u16,
-    end: u16,
-) -> Meeting
-    requires { (length owners.old ≡ 4096) × ((first ≤ end) × (end ≤ 128)) }
-    ensures { (owners.new, result) ≡ blocks_pass page par first (end - first) (owners.old, lowest) }
-{
-    let mut found = lowest;
-    let mut b = first;
-    while b < end {
-        found = sight(owners, found, page, (par % 4096 + b) % 4096);
-        b += 1;
-    }
-    found
-}
-
-// The first allowed block: 0 (ED 0), or the length field (ED 1).
-fn first_block(pdr: u16) -> u16
-    ensures { result ≡ first_block pdr }
-{
-    if pdr / 8 % 2 == 0 {
-        return 0;
-    }
-    pdr / 256 % 128
-}
-
-// One past the last allowed block: the length field (ED 0), or 127 (ED 1).
-fn end_block(pdr: u16) -> u16
-    ensures { (result ≡ end_block pdr) × (result ≤ 128) }
-{
-    if pdr / 8 % 2 == 0 {
-        return pdr / 256 % 128 + 1;
-    }
-    128
-}
-
-fn sight_page(owners: &mut [u8], lowest: Meeting, page: u8, par: u16, pdr: u16) -> Meeting
-    requires { length owners.old ≡ 4096 }
-    ensures { (owners.new, result) ≡ page_pass page par pdr (owners.old, lowest) }
-{
-    let right = ruling::right_of(pdr);
-    let read = right.read;
-    if !read {
-        return lowest;
-    }
-    sight_blocks(owners, lowest, page, par, first_block(pdr), end_block(pdr))
-}
-
-// The pages from first on, before end.
-fn sight_pages(s: &[u16], owners: &mut [u8], lowest: Meeting, first: usize, end: usize) -> Meeting
-    requires { (length s.now ≡ 100) × ((length owners.old ≡ 4096) × ((first ≤ end) × (end ≤ 48))) }
-    ensures { (owners.new, result) ≡ pages_pass s.now first (end - first) (owners.old, lowest) }
-{
-    let mut found = lowest;
-    let mut page = first;
-    while page < end {
-        found = sight_page(owners, found, page as u8, s[page], s[48 + page]);
-        page += 1;
-    }
-    found
-}
-
-fn answered(found: Meeting) -> Parting
-    ensures { result ≡ answer found }
-{
-    if found.block < 4096 {
-        return Parting::Shared(found);
-    }
-    Parting::Apart
-}
-
-// Whether the modes are apart, or the lowest block that two of them share, or refused by 1.
-pub fn apart(s: &[u16]) -> Parting
+// Whether the modes are apart, none, or the lowest block that two of them share; refused by 1.
+#[tactic(auto, unfolding(crate::specs::Parting::parting_of))]
+pub fn apart(s: &[u16]) -> Result<Option<Meeting>, Refusal>
     ensures { result ≡ parting_of s.now }
 {
-    if s.len() != 100 {
-        return Parting::Refused(Refusal::Store);
-    }
-    let sr3 = s[99];
-    let mut owners = [NONE; 4096];
-    let nothing = Meeting {
-        block: 4096,
-        first: NONE,
-        second: NONE,
-    };
-    let kernel = sight_pages(s, &mut owners, nothing, 0, reach::pages_of(sr3, 0));
-    let supervisor = sight_pages(s, &mut owners, kernel, 16, 16 + reach::pages_of(sr3, 1));
-    let user = sight_pages(s, &mut owners, supervisor, 32, 32 + reach::pages_of(sr3, 3));
-    answered(user)
+    let store = <&Store>::try_from(s).map_err(|_| Refusal::Store)?;
+    Ok(Pass::over(store).lowest)
 }

@@ -1,3 +1,2 @@
-pub mod Ranges
-pub mod Pages
-pub mod Legal
+pub mod Holds
+pub mod ByPages

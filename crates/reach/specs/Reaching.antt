@@ -1,16 +1,15 @@
--- The answer whether a mode reaches a block: refused by 1 or 2, or as `reaches` says.
-use Rattle.std.specs.Prelude.{ℕ, ◌+◌, ◌-◌, ◌%◌, Bool, cond, ◌&&◌, List, eqb, ltb, length}
+-- Whether a mode reaches a block: refused by 1 or 2, or as `reaches` says.
+use Rattle.std.specs.Prelude.{ℕ, ◌+◌, ◌-◌, ◌%◌, Bool, cond, ◌&&◌, List, eqb, ltb, length, Result, Ok, Err}
 use Rattle.page.specs.Fields.{base_of}
+use Rattle.rules.specs.declared.Refusal.{Refusal}
 use Rattle.rules.specs.declared.Refusal.TheVariants.{Store, Mode}
 use Rattle.widening.specs.Reaches.{allows, reaches}
-use Rattle.reach.specs.declared.Reaching.{Reaching as Answer}
-use Rattle.reach.specs.declared.Reaching.TheVariants.{Yes, No, Refused}
 
-unfoldable pub reaching_of : List ℕ → ℕ → ℕ → Answer
+unfoldable pub reaching_of : List ℕ → ℕ → ℕ → Result Bool Refusal
 reaching_of l mode block =
     cond (eqb (length l) 100)
-    (cond (ltb 3 mode) (Refused Mode) (cond (reaches l mode block) Yes No))
-    (Refused Store)
+    (cond (ltb 3 mode) (Err Mode) (Ok (reaches l mode block)))
+    (Err Store)
 
 -- the only block of a page that can lie in a block of memory, if it is one and allowed. That a page so reaches the block is shown in proofs/
 unfoldable pub holds : ℕ → ℕ → ℕ → Bool

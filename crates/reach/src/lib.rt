@@ -2,99 +2,72 @@
 
 #![tactic(auto)]
 
-ghost use Rattle.std.specs.Prelude.{◌≡◌, ◌-◌, ◌<◌, ◌≤◌, length};
-ghost use Rattle.rules.specs.Words.{enables_d};
-ghost use Rattle.rules.specs.References.{first_page};
-ghost use Rattle.widening.specs.Some.{some};
-ghost use Rattle.widening.specs.Reaches.{pages_of, page_reaches};
+ghost use Rattle.std.specs.Prelude.{◌≡◌, ◌<◌, ◌≤◌};
+ghost use Rattle.std.specs.List.{list_any, zip};
+ghost use Rattle.rules.specs.Modes.{mode_number};
+ghost use Rattle.widening.specs.Reaches.{pages_of as pages_of_mode, reaches};
 ghost use Rattle.reach.specs.Reaching.{reaching_of, holds};
 
-use rules::Refusal;
+use rules::{Mode, Refusal, Store};
 
-// Whether a mode reaches a block.
-#[derive(Clone, Copy)]
-pub enum Reaching {
-    Yes,
-    No,
-    Refused(Refusal),
-}
-
-// Where a mode's pages begin among the 48.
-fn first_page(mode: u32) -> usize
-    ensures { (result ≡ first_page mode) × (result ≤ 32) }
+// How many pages SR3 lets a mode use, from its first on: the eight of its I set, and the eight of its D set if SR3 enables it.
+pub fn pages(mode: Mode, sr3: u16) -> usize
+    ensures { (result ≡ pages_of_mode sr3 (mode_number mode)) × (result ≤ 16) }
 {
-    if mode == 0 {
-        return 0;
-    }
-    if mode == 1 {
-        return 16;
-    }
-    32
+    if mode.enables_d(sr3) { 16 } else { 8 }
 }
 
-// SR3 enables D space: bit 2 for Kernel, bit 1 for Supervisor, bit 0 for User.
-fn enables_d(sr3: u16, mode: u32) -> bool
-    ensures { result ≡ enables_d sr3 mode }
-{
-    ((mode == 0) & (sr3 / 4 % 2 == 1))
-        | ((mode == 1) & (sr3 / 2 % 2 == 1))
-        | ((mode == 3) & (sr3 % 2 == 1))
-}
-
-// The pages of the sets SR3 lets a mode use.
+// The same by a mode's number; eight where no mode has it.
+#[tactic(auto, using(rules::proofs::SameNumber::same_number), unfolding(rules::specs::Modes::mode_of))]
 pub fn pages_of(sr3: u16, mode: u32) -> usize
-    ensures { (result ≡ pages_of sr3 mode) × (result ≤ 16) }
+    ensures { (result ≡ pages_of_mode sr3 mode) × (result ≤ 16) }
 {
-    if enables_d(sr3, mode) {
-        return 16;
+    match Mode::of(mode) {
+        Ok(Some(mode)) => pages(mode, sr3),
+        Ok(None) | Err(_) => 8,
     }
-    8
 }
 
 // A page's block b that lies in a block of memory is the difference modulo 4096; it is to be allowed.
+#[tactic(auto, unfolding(crate::specs::Reaching::holds, rules::specs::Keys::right_of))]
 fn page_holds(par: u16, pdr: u16, block: u16) -> bool
-    requires { block < 4096 }
     ensures { result ≡ holds par pdr block }
 {
-    let b = (block + 4096 - par % 4096) % 4096;
+    let b = block.wrapping_sub(par) % 4096;
     let right = ruling::right_of(pdr);
-    (b < 128) & (right.read & !page::length_error(pdr, b))
+    b < 128 && right.read && !page::length_error(pdr, b)
 }
 
-// Some page from first on, before end, reaches a block.
-fn some_page(s: &[u16], block: u16, first: usize, end: usize) -> bool
-    requires { (length s.now ≡ 100) × ((block < 4096) × ((first ≤ end) × (end ≤ 48))) }
-    ensures { result ≡ some (page_reaches s.now block) first (end - first) }
+// Some page of those with these PARs and PDRs.
+fn some_page(pars: &[u16], pdrs: &[u16], block: u16) -> bool
+    ensures { result ≡ list_any (λ page. holds page.0 page.1 block) (zip pars.now pdrs.now) }
 {
-    let mut page = first;
-    while page < end {
-        if page_holds(s[page], s[48 + page], block) {
-            return true;
-        }
-        page += 1;
-    }
-    false
+    pars.iter()
+        .zip(pdrs)
+        .any(|(par, pdr)| page_holds(*par, *pdr, block))
+}
+
+// A mode reaches a block of memory.
+fn mode_reaches(store: &Store, mode: Mode, block: u16) -> bool
+    requires { block < 4096 }
+    ensures { result ≡ reaches store.now (mode_number mode) block }
+{
+    let first = mode.first_page();
+    let end = first + pages(mode, store[99]);
+    some_page(&store[first..end], &store[48 + first..48 + end], block)
 }
 
 // Whether a mode reaches a block, or the lowest of 1 and 2.
-pub fn reaches_block(s: &[u16], mode: u32, block: u32) -> Reaching
+#[tactic(auto, using(crate::proofs::ByPages::high_none, rules::proofs::SameNumber::same_number), unfolding(crate::specs::Reaching::reaching_of, rules::specs::Modes::mode_of, widening::specs::Reaches::reaches))]
+pub fn reaches_block(s: &[u16], mode: u32, block: u32) -> Result<bool, Refusal>
     ensures { result ≡ reaching_of s.now mode block }
 {
-    if s.len() != 100 {
-        return Reaching::Refused(Refusal::Store);
-    }
-    if 3 < mode {
-        return Reaching::Refused(Refusal::Mode);
-    }
-    if mode == 2 {
-        return Reaching::No;
-    }
+    let store = <&Store>::try_from(s).map_err(|_| Refusal::Store)?;
+    let Some(mode) = Mode::of(mode)? else {
+        return Ok(false);
+    };
     if 4096 <= block {
-        return Reaching::No;
+        return Ok(false);
     }
-    let first = first_page(mode);
-    if some_page(s, block as u16, first, first + pages_of(s[99], mode)) {
-        return Reaching::Yes;
-    }
-    Reaching::No
+    Ok(mode_reaches(store, mode, block as u16))
 }

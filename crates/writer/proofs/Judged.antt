@@ -1,24 +1,50 @@
 -- What an answer tells of the refusal's number, and number 0 of the event: its record fits, and so does its amount.
-use mathlib.Core.Path.{◌≡◌, refl, ap}
+use mathlib.Core.Path.{◌≡◌, refl, sym, ◌∙◌, ap}
 use mathlib.Core.Bool.{Bool, true, false, cond, true≢false, false≢true}
 use mathlib.Core.List.{List, [], ◌∷◌, ◌++◌}
-use Prim.Native.Nat.{ℕ, ◌+◌, ◌≤◌}
+use Prim.Native.Nat.{ℕ, zero, suc, ◌+◌, ◌≤◌}
+use native.Mathlib.Omega.{arith}
 use lib.ListN.{length}
 use lib.Dec.{ltb, eqb}
 use lib.IntN.{ℤ}
 use borrow.Author.Tests.{le-ltb, ltb-false, eqb-true}
 use Rattle.rules.specs.Refusals.{Conditions, lowest}
+use Rattle.rules.specs.Paper.{number}
+use Rattle.rules.specs.declared.Refusal.{Refusal}
 use Rattle.rules.specs.declared.Event.{Event}
 use Rattle.rules.specs.declared.Event.TheVariants.{Refer, Read, Write, Instruction, Interrupt, Change, Init}
 use Rattle.writer.specs.Bytes.{record_of}
-use Rattle.writer.proofs.Fields.{passed, reference_fits, address_fits, change_fits}
-use Rattle.writer.specs.Writing.{Said, Used, X, in_byte, large, short, unwritten, answer, write}
+use Rattle.writer.proofs.Fields.{passed, change_fits}
+use Rattle.writer.proofs.Said.{no_zero}
+use Rattle.writer.specs.Writing.{Said, Used, X, in_byte, large, short, unwritten, answer, laid, write}
 
--- no number is given by two lists of conditions exactly if by neither
-neither-given : (cs ds : Conditions) → lowest cs ≡ 0 → lowest ds ≡ 0 → lowest (cs ++ ds) ≡ 0
-neither-given [] ds f g = g
-neither-given ((n, true) ∷ cs) ds f g = f
-neither-given ((n, false) ∷ cs) ds f g = neither-given cs ds f g
+-- no condition of an event's fields has the number 0, which stands for none
+abbrev positive : Conditions → Bool
+positive [] = true
+positive ((zero, x) ∷ cs) = false
+positive ((suc n, x) ∷ cs) = positive cs
+
+fields-positive : (e : Event) → positive (large e) ≡ true
+fields-positive (Refer r) = refl
+fields-positive (Read address) = refl
+fields-positive (Write address value) = refl
+fields-positive (Instruction va) = refl
+fields-positive (Interrupt vector) = refl
+fields-positive (Change register amount) = refl
+fields-positive Init = refl
+
+-- conditions of which none holds leave the answer to those after them
+passing : (cs ds : Conditions) → positive cs ≡ true → lowest cs ≡ 0 → lowest (cs ++ ds) ≡ lowest ds
+passing [] ds p h = refl
+passing ((zero, x) ∷ cs) ds p h = absurd (false≢true p)
+passing ((suc n, true) ∷ cs) ds p h = absurd (omega arith)
+passing ((suc n, false) ∷ cs) ds p h = passing cs ds p h
+
+-- and one that holds gives it
+stopping : (cs ds : Conditions) → eqb (lowest cs) 0 ≡ false → lowest (cs ++ ds) ≡ lowest cs
+stopping [] ds h = absurd (true≢false h)
+stopping ((n, true) ∷ cs) ds h = refl
+stopping ((n, false) ∷ cs) ds h = stopping cs ds h
 
 first_not_given : (cs ds : Conditions) → lowest (cs ++ ds) ≡ 0 → lowest cs ≡ 0
 first_not_given [] ds h = refl
@@ -28,7 +54,8 @@ first_not_given ((n, false) ∷ cs) ds h = first_not_given cs ds h
 -- an event whose fields fit, and whose record fits in what is left
 pub accepted : (room used : ℕ) (e : Event) → lowest (large e) ≡ 0 → used + length (record_of e) ≤ room → unwritten room used e ≡ 0
 unfolding unwritten
-accepted room used e f h = neither-given (large e) (short room used (length (record_of e))) f (rw (le-ltb room (used + length (record_of e)) h))
+accepted room used e f h =
+    passing (large e) (short room used (length (record_of e))) (fields-positive e) f ∙ rw (le-ltb room (used + length (record_of e)) h)
 
 pub not_large : (room used : ℕ) (e : Event) → unwritten room used e ≡ 0 → lowest (large e) ≡ 0
 unfolding unwritten
@@ -39,20 +66,10 @@ roomy : (room used bytes : ℕ) → ◌≡◌ {A = ℕ} (cond (ltb room (used + 
 roomy room used bytes h = ltb-false room (used + bytes) (passed (ltb room (used + bytes)) 13 0 h).0
 
 pub fitting : (room used : ℕ) (e : Event) → unwritten room used e ≡ 0 → used + length (record_of e) ≤ room
-unfolding unwritten record_of
-fitting room used (Refer r) h =
-    let b = reference_fits r (not_large room used (Refer r) h) in
-    roomy room used 7
-    (rw (le-ltb 255 r.mode b.mode, le-ltb 255 r.space b.space, le-ltb 255 r.access b.access, le-ltb 255 r.phase b.phase) at h)
-fitting room used (Read address) h = roomy room used 4 (rw (le-ltb 0o77777777 address (address_fits address (not_large room used (Read address) h))) at h)
-fitting room used (Write address value) h =
-    roomy room used 6 (rw (le-ltb 0o77777777 address (address_fits address (not_large room used (Write address value) h))) at h)
-fitting room used (Instruction va) h = roomy room used 3 h
-fitting room used (Interrupt vector) h = roomy room used 3 h
-fitting room used (Change register amount) h =
-    let b = change_fits register amount (not_large room used (Change register amount) h) in
-    roomy room used 3 (rw (le-ltb 255 register b.0, b.1) at h)
-fitting room used Init h = roomy room used 1 h
+unfolding unwritten
+fitting room used e h =
+    let left = short room used (length (record_of e)) in
+    roomy room used (length (record_of e)) (sym (passing (large e) left (fields-positive e) (not_large room used e h)) ∙ h)
 
 pub amount-fits : (room used register : ℕ) (amount : ℤ) → unwritten room used (Change register amount) ≡ 0 → in_byte amount ≡ true
 amount-fits room used register amount h = (change_fits register amount (not_large room used (Change register amount) h)).1
@@ -82,8 +99,42 @@ refused-tells n next k e = by (eqb n 0) refl e
     by true h e = absurd (false≢true (ap is_used e))
     by false h e = h
 
+-- fields that do not fit refuse, whatever room there is
+pub fields_refuse :
+    (room used next : ℕ) (e : Event) (r : Refusal) → number r ≡ lowest (large e) → X (number r) ≡ answer (unwritten room used e) next
+unfolding unwritten
+fields_refuse room used next e r h =
+    let given = rw h at (no_zero r) in
+    let n = stopping (large e) (short room used (length (record_of e))) given in
+    rw (n, h, given)
+
+-- and where they fit the room decides
+pub room_decides :
+    (room used next : ℕ) (e : Event) (x : Said) → 0 ≡ lowest (large e)
+    → x ≡ answer (lowest (short room used (length (record_of e)))) next → x ≡ answer (unwritten room used e) next
+unfolding unwritten
+room_decides room used next e x f h =
+    rw (passing (large e) (short room used (length (record_of e))) (fields-positive e) (sym f)) h
+
 -- what is refused leaves the buffer as it was
 pub refusing : (b : List ℕ) (used : ℕ) (e : Event) (k : ℕ) → X k ≡ answer (unwritten (length b) used e) (used + length (record_of e))
     → (X k, b) ≡ write b used e
 unfolding write
 refusing b used e k told = rw (told, refused-tells (unwritten (length b) used e) (used + length (record_of e)) k told)
+
+-- what is answered by a number of bytes has fields that fit, and room
+pub may_write :
+    (room used n : ℕ) (e : Event) → Used n ≡ answer (unwritten room used e) (used + length (record_of e))
+    → (lowest (large e) ≡ 0) × (used + length (record_of e) ≤ room)
+may_write room used n e told =
+    let free = (used_tells (unwritten room used e) (used + length (record_of e)) n told).0 in
+    (not_large room used e free, fitting room used e free)
+
+-- and then the record stands in the buffer
+pub writing :
+    (b : List ℕ) (used n : ℕ) (e : Event) (m : List ℕ) → Used n ≡ answer (unwritten (length b) used e) (used + length (record_of e))
+    → m ≡ laid b used (record_of e) → (Used n, m) ≡ write b used e
+unfolding write
+writing b used n e m told stored =
+    let tells = used_tells (unwritten (length b) used e) (used + length (record_of e)) n told in
+    rw (stored, tells.0, tells.1)

@@ -1,26 +1,30 @@
 -- Request E2: what appending an event's record to a lent buffer answers, and the buffer afterwards.
-use Rattle.std.specs.Prelude.{ℕ, ◌+◌, ◌≡◌, Bool, cond, not, ◌||◌, List, [], ◌∷◌, ◌++◌, length, take, drop, ltb, eqb, ℤ, pos, negsuc}
+use Rattle.std.specs.Prelude.{ℕ, ◌+◌, ◌≡◌, Bool, cond, not, ◌||◌, List, [], ◌∷◌, ◌++◌, length, take, drop, ltb, eqb, ℤ, pos, negsuc, Result, Ok, Err}
 use Rattle.rules.specs.Paper.{number}
 use Rattle.rules.specs.Refusals.{Conditions, lowest}
+use Rattle.rules.specs.declared.Refusal.{Refusal}
 use Rattle.rules.specs.declared.Reference.{Reference}
 use Rattle.rules.specs.declared.Event.{Event}
 use Rattle.rules.specs.declared.Event.TheVariants.{Refer, Read, Write, Instruction, Interrupt, Change, Init}
 use Rattle.writer.specs.Bytes.{record_of}
-use Rattle.writer.specs.declared.Wrote.{Wrote}
-use Rattle.writer.specs.declared.Wrote.TheVariants.{Upto, Refused}
 
 -- the new number of bytes used; or a refusal's number
 pub data Said : Type 0 where
   Used : ℕ → Said
   X : ℕ → Said
 
-abbrev pub said : Wrote → Said
-said (Upto used) = Used used
-said (Refused r) = X (number r)
+abbrev pub said : Result ℕ Refusal → Said
+said (Ok used) = Used used
+said (Err r) = X (number r)
 
 -- no two answers say the same
 abbrev pub SaidOneToOne : Type 0
-SaidOneToOne = (a b : Wrote) → said a ≡ said b → a ≡ b
+SaidOneToOne = (a b : Result ℕ Refusal) → said a ≡ said b → a ≡ b
+
+-- the number that refuses, 0 for none
+abbrev pub refused_by : {T : Type 0} → Result T Refusal → ℕ
+refused_by (Ok x) = 0
+refused_by (Err r) = number r
 
 -- an amount that a byte holds: -128 to 127
 abbrev pub in_byte : ℤ → Bool
@@ -59,10 +63,14 @@ unwritten room used e = lowest (large e ++ short room used (length (record_of e)
 abbrev pub answer : ℕ → ℕ → Said
 answer refusal used = cond (eqb refusal 0) (Used used) (X refusal)
 
+-- some bytes in place of those from a place on
+abbrev pub laid : List ℕ → ℕ → List ℕ → List ℕ
+laid b at bytes = take at b ++ bytes ++ drop (at + length bytes) b
+
 -- the answer, and the whole buffer afterwards
 unfoldable pub write : List ℕ → ℕ → Event → Said × List ℕ
 write b used e =
     let bytes = record_of e in
     let next = used + length bytes in
     let refusal = unwritten (length b) used e in
-    (answer refusal next, cond (eqb refusal 0) (take used b ++ bytes ++ drop next b) b)
+    (answer refusal next, cond (eqb refusal 0) (laid b used bytes) b)

@@ -1,97 +1,108 @@
 // Whether an event's record is written: its fields against their bytes, by 01's numbers, and then 14, in that order.
 
-ghost use Rattle.std.specs.Prelude.{◌≡◌, ◌++◌, ◌+◌, length, ltb};
+ghost use Rattle.std.specs.Prelude.{◌≡◌, ◌+◌, length, ltb};
 ghost use Rattle.rules.specs.Refusals.{lowest};
 ghost use Rattle.writer.specs.Bytes.{record_of};
-ghost use Rattle.writer.specs.Writing.{said, in_byte, large_reference, large_address, large_change, short as short_of, unwritten, answer};
+ghost use Rattle.writer.specs.Writing.{said, refused_by, in_byte as in_byte_of, large_reference, large_address, large_change, large, short, unwritten, answer};
 
-use crate::Wrote;
 use rules::{Event, Reference, Refusal};
-
-// so many bytes do not fit in what is left of the room
-fn short(room: usize, used: usize, bytes: usize) -> bool
-    ensures { result ≡ ltb room (used + bytes) }
-{
-    if room < used {
-        return true;
-    }
-    room - used < bytes
-}
 
 // -128 to 127
 fn in_byte(amount: i32) -> bool
-    ensures { result ≡ in_byte amount }
+    ensures { result ≡ in_byte_of amount }
 {
     (-128 <= amount) & (amount <= 127)
 }
 
-fn judge_reference(room: usize, used: usize, r: Reference) -> Wrote
-    ensures { said result ≡ answer (lowest (large_reference r ++ short_of room used 7)) (used + 7) }
+fn reference_fits(r: Reference) -> Result<(), Refusal>
+    ensures { refused_by result ≡ lowest (large_reference r) }
 {
     if 255 < r.mode {
-        return Wrote::Refused(Refusal::Mode);
+        return Err(Refusal::Mode);
     }
     if 255 < r.space {
-        return Wrote::Refused(Refusal::Space);
+        return Err(Refusal::Space);
     }
     if 255 < r.access {
-        return Wrote::Refused(Refusal::Access);
+        return Err(Refusal::Access);
     }
     if 255 < r.phase {
-        return Wrote::Refused(Refusal::Phase);
+        return Err(Refusal::Phase);
     }
-    judge_room(room, used, 7)
+    Ok(())
 }
 
-// a register's address, with so many bytes in its record: 6 is given before 14, also where both hold
-fn judge_address(room: usize, used: usize, bytes: usize, address: u32) -> Wrote
-    ensures { said result ≡ answer (lowest (large_address address ++ short_of room used bytes)) (used + bytes) }
+// a register's address has three bytes
+fn address_fits(address: u32) -> Result<(), Refusal>
+    ensures { refused_by result ≡ lowest (large_address address) }
 {
-    let large = 0o77777777 < address;
-    let short = short(room, used, bytes);
-    if large {
-        return Wrote::Refused(Refusal::High);
+    if 0o77777777 < address {
+        return Err(Refusal::High);
     }
-    if short {
-        return Wrote::Refused(Refusal::Room);
-    }
-    Wrote::Upto(used + bytes)
+    Ok(())
 }
 
-fn judge_change(room: usize, used: usize, register: u32, amount: i32) -> Wrote
-    ensures { said result ≡ answer (lowest (large_change register amount ++ short_of room used 3)) (used + 3) }
+fn change_fits(register: u32, amount: i32) -> Result<(), Refusal>
+    ensures { refused_by result ≡ lowest (large_change register amount) }
 {
-    if 255 < register {
-        return Wrote::Refused(Refusal::BadChange);
+    if 255 < register || !in_byte(amount) {
+        return Err(Refusal::BadChange);
     }
-    if !in_byte(amount) {
-        return Wrote::Refused(Refusal::BadChange);
-    }
-    judge_room(room, used, 3)
+    Ok(())
 }
 
-// a record whose fields can't be too large
-fn judge_room(room: usize, used: usize, bytes: usize) -> Wrote
-    ensures { said result ≡ answer (lowest (short_of room used bytes)) (used + bytes) }
+// No field is too large for its bytes; VA, value and vector can't be.
+fn fields_fit(event: Event) -> Result<(), Refusal>
+    ensures { refused_by result ≡ lowest (large event) }
 {
-    if short(room, used, bytes) {
-        Wrote::Refused(Refusal::Room)
-    } else {
-        Wrote::Upto(used + bytes)
+    match event {
+        Event::Refer(r) => reference_fits(r),
+        Event::Read { address } => address_fits(address),
+        Event::Write { address, value: _ } => address_fits(address),
+        Event::Change { register, amount } => change_fits(register, amount),
+        Event::Instruction { va: _ } => Ok(()),
+        Event::Interrupt { vector: _ } => Ok(()),
+        Event::Init => Ok(()),
+    }
+}
+
+// The number of bytes of an event's record.
+#[tactic(auto, unfolding(crate::specs::Bytes::record_of))]
+fn length_of(event: Event) -> usize
+    ensures { result ≡ length (record_of event) }
+{
+    match event {
+        Event::Refer(_) => 7,
+        Event::Read { address: _ } => 4,
+        Event::Write {
+            address: _,
+            value: _,
+        } => 6,
+        Event::Instruction { va: _ } => 3,
+        Event::Interrupt { vector: _ } => 3,
+        Event::Change {
+            register: _,
+            amount: _,
+        } => 3,
+        Event::Init => 1,
+    }
+}
+
+// The bytes used once so many more are written, if they fit in the room.
+fn used_after(room: usize, used: usize, bytes: usize) -> Result<usize, Refusal>
+    ensures { said result ≡ answer (lowest (short room used bytes)) (used + bytes) }
+{
+    match used.checked_add(bytes) {
+        Some(next) if next <= room => Ok(next),
+        _ => Err(Refusal::Room),
     }
 }
 
 // The answer of writing into a buffer of so much room.
-pub(crate) fn judge(room: usize, used: usize, event: Event) -> Wrote
+#[tactic(auto, using(crate::proofs::Judged::fields_refuse, crate::proofs::Judged::room_decides))]
+pub(crate) fn judge(room: usize, used: usize, event: Event) -> Result<usize, Refusal>
     ensures { said result ≡ answer (unwritten room used event) (used + length (record_of event)) }
 {
-    match event {
-        Event::Refer(r) => judge_reference(room, used, r),
-        Event::Read { address } => judge_address(room, used, 4, address),
-        Event::Write { address, value: _ } => judge_address(room, used, 6, address),
-        Event::Instruction { va: _ } => judge_room(room, used, 3),
-        Event::Interrupt { vector: _ } => judge_room(room, used, 3),
-        Event::Change { register, amount } => judge_change(room, used, register, amount),
-        Event::Init => judge_room(room, used, 1),
-    }
+    fields_fit(event)?;
+    used_after(room, used, length_of(event))
 }

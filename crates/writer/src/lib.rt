@@ -10,26 +10,14 @@ ghost use Rattle.writer.specs.Writing.{said, write as write_of};
 
 use rules::{Event, Refusal};
 
-// What writing answers.
-#[derive(Clone, Copy)]
-pub enum Wrote {
-    // The new number of bytes used.
-    Upto(usize),
-    // Not a byte has changed.
-    Refused(Refusal),
-}
-
-// Appends an event's record after the bytes used so far. A field too large for its bytes is refused first, by its number in 01;
-// then by 14 a record that does not fit in what is left. An event that the unit would refuse is written.
-#[tactic(auto, using(crate::proofs::Judged::refusing))]
-pub fn write(buffer: &mut [u8], used: usize, event: Event) -> Wrote
+// Appends an event's record after the bytes used so far, and gives the new number of bytes used. A field too large for its bytes is
+// refused first, by its number in 01; then by 14 a record that does not fit in what is left; then not a byte has changed. An event that
+// the unit would refuse is written.
+#[tactic(auto, using(crate::proofs::Judged::may_write, crate::proofs::Judged::writing, crate::proofs::Judged::refusing))]
+pub fn write(buffer: &mut [u8], used: usize, event: Event) -> Result<usize, Refusal>
     ensures { (said result, buffer.new) ≡ write_of buffer.old used event }
 {
-    match judging::judge(buffer.len(), used, event) {
-        Wrote::Refused(refusal) => Wrote::Refused(refusal),
-        Wrote::Upto(next) => {
-            putting::put(buffer, used, event);
-            Wrote::Upto(next)
-        }
-    }
+    let next = judging::judge(buffer.len(), used, event)?;
+    putting::put(buffer, used, event);
+    Ok(next)
 }
