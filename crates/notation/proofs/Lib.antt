@@ -1,10 +1,4 @@
 pub mod Examples
-pub mod Parts
-pub mod Runs
-pub mod Emptiness
-pub mod Spelling
-pub mod Naming
 pub mod Octals
-pub mod Amounts
+pub mod Bounds
 pub mod Signs
-pub mod Steps

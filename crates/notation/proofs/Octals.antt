@@ -11,8 +11,8 @@ use lib.Dec.{leb}
 use borrow.Author.Tests.{le-leb, lt-leb, leb-true}
 use Rattle.lines.specs.Lines.{Text}
 use Rattle.notation.specs.Fields.{octal_digit, octal_from, octal_of, up_to, octal_up_to}
-use Rattle.notation.specs.declared.Number.{Number}
-use Rattle.notation.specs.declared.Number.TheVariants.{Is, None}
+use Rattle.std.specs.declared.option.Option.{Option}
+use Rattle.std.proofs.Common.{None, Some}
 
 pub below-digits : (c : ℕ) → c < 48 → octal_digit c ≡ false
 below-digits c h = rw (lt-leb 48 c h)
@@ -56,18 +56,18 @@ module _ (most : ℕ) where
     pub exceeds : i < length w → 48 ≤ get_or w i 0 → get_or w i 0 ≤ 55 → most < 8 * n + (get_or w i 0 - 48) → None ≡ octal_up_to most w
     exceeds h l u m = sym (one_more h l u ∙ too_large most _ _ m)
 
-    pub complete : length w ≤ i → n ≤ most → Is n ≡ octal_up_to most w
+    pub complete : length w ≤ i → n ≤ most → Some n ≡ octal_up_to most w
     unfolding octal_from
     complete h m = rw (left, drop_of_length-le w h, le-leb n most m)
 
-limit : (most n : ℕ) (x : Number) → up_to most x ≡ Is n → n ≤ most
+limit : (most n : ℕ) (x : Option ℕ) → up_to most x ≡ Some n → n ≤ most
 limit most n None e = let z : ◌≡◌ {A = ℕ} 0 1 = cc in absurd (omega arith)
-limit most n (Is m) e = of (leb m most) refl e
+limit most n (Some m) e = of (leb m most) refl e
   where
-    of : (b : Bool) → leb m most ≡ b → cond b (Is m) None ≡ Is n → n ≤ most
+    of : (b : Bool) → leb m most ≡ b → cond b (Some m) None ≡ Some n → n ≤ most
     of true h e = let k : m ≡ n = cc in omega (arith, leb-true m most h)
     of false h e = let z : ◌≡◌ {A = ℕ} 0 1 = cc in absurd (omega arith)
 
-pub within : (most n : ℕ) (w : Text) (x : Number) → x ≡ octal_up_to most w → x ≡ Is n → n ≤ most
+pub within : (most n : ℕ) (w : Text) (x : Option ℕ) → x ≡ octal_up_to most w → x ≡ Some n → n ≤ most
 unfolding octal_up_to
 within most n w x read is = limit most n (octal_of w) (sym read ∙ is)

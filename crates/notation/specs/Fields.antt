@@ -1,21 +1,24 @@
 -- What a word stands for in its field (docs/NOTATION.md, "Fields").
-use Rattle.std.specs.Prelude.{ℕ, zero, suc, ◌+◌, ◌*◌, ◌-◌, Bool, cond, ◌&&◌, List, [], ◌∷◌, leb, eqb, ℤ, pos, negsuc}
+use Rattle.std.specs.Prelude.{ℕ, zero, suc, ◌+◌, ◌*◌, ◌-◌, Bool, cond, ◌&&◌, List, [], ◌∷◌, leb, eqb, ℤ, pos, negsuc, None, Some}
+use Rattle.std.specs.declared.option.Option.{Option}
+use Rattle.std.specs.Option.{option_map, option_or}
+use Rattle.std.specs.Str.{bytes_eq}
 use Rattle.lines.specs.Chars.{chars}
 use Rattle.lines.specs.Lines.{Text}
-use Rattle.notation.specs.Words.{same}
 use Rattle.notation.specs.declared.Field.{Field}
 use Rattle.notation.specs.declared.Field.TheVariants.{Mode, Space, Access, Phase, Va, Value, Vector, Address, Register, Byte}
-use Rattle.notation.specs.declared.Number.{Number}
-use Rattle.notation.specs.declared.Number.TheVariants.{Is, None}
-use Rattle.notation.specs.declared.Amount.{Amount}
-use Rattle.notation.specs.declared.Amount.TheVariants.{By, None as NoAmount}
 
--- the words of a field; each stands for its place here, from 0 on
-abbrev pub words_of : Field → List Text
-words_of Mode = chars "kernel" ∷ chars "supervisor" ∷ chars "illegal" ∷ chars "user" ∷ []
-words_of Space = chars "instruction" ∷ chars "data" ∷ []
-words_of Access = chars "read" ∷ chars "write" ∷ []
-words_of Phase = chars "instruction" ∷ chars "trap" ∷ []
+-- what stands beside a word in a list
+abbrev pub looked_up : {A : Type 0} → Text → List (Text × A) → Option A
+looked_up w [] = None
+looked_up w (x ∷ xs) = cond (bytes_eq w x.0) (Some x.1) (looked_up w xs)
+
+-- the words of a field, and the number that each stands for
+abbrev pub words_of : Field → List (Text × ℕ)
+words_of Mode = (chars "kernel", 0) ∷ (chars "supervisor", 1) ∷ (chars "illegal", 2) ∷ (chars "user", 3) ∷ []
+words_of Space = (chars "instruction", 0) ∷ (chars "data", 1) ∷ []
+words_of Access = (chars "read", 0) ∷ (chars "write", 1) ∷ []
+words_of Phase = (chars "instruction", 0) ∷ (chars "trap", 1) ∷ []
 words_of Va = []
 words_of Value = []
 words_of Vector = []
@@ -41,47 +44,34 @@ abbrev pub octal_digit : ℕ → Bool
 octal_digit c = leb 48 c && leb c 55
 
 -- the digits of a word after those that make n
-unfoldable pub octal_from : ℕ → Text → Number
-octal_from n [] = Is n
+unfoldable pub octal_from : ℕ → Text → Option ℕ
+octal_from n [] = Some n
 octal_from n (c ∷ t) = cond (octal_digit c) (octal_from (8 * n + (c - 48)) t) None
 
 -- a word of digits, one or more
-abbrev pub octal_of : Text → Number
+abbrev pub octal_of : Text → Option ℕ
 octal_of [] = None
 octal_of (c ∷ t) = octal_from 0 (c ∷ t)
 
-abbrev pub up_to : ℕ → Number → Number
-up_to most (Is n) = cond (leb n most) (Is n) None
+abbrev pub up_to : ℕ → Option ℕ → Option ℕ
+up_to most (Some n) = cond (leb n most) (Some n) None
 up_to most None = None
 
-unfoldable pub octal_up_to : ℕ → Text → Number
+unfoldable pub octal_up_to : ℕ → Text → Option ℕ
 octal_up_to most w = up_to most (octal_of w)
 
--- a word's place in a list, whose first is place n; else another number
-unfoldable pub place_or : Number → Text → ℕ → List Text → Number
-place_or other w n [] = other
-place_or other w n (x ∷ xs) = cond (same w x) (Is n) (place_or other w (suc n) xs)
-
 -- a word of the field, or a number that it can hold
-unfoldable pub number_of : Field → Text → Number
-number_of f w = place_or (octal_up_to (most_of f) w) w 0 (words_of f)
+unfoldable pub number_of : Field → Text → Option ℕ
+number_of f w = option_or (looked_up w (words_of f)) (octal_up_to (most_of f) w)
 
 -- -n
 abbrev pub minus : ℕ → ℤ
 minus zero = pos 0
 minus (suc n) = negsuc n
 
-abbrev pub plus : Number → Amount
-plus (Is n) = By (pos n)
-plus None = NoAmount
-
-abbrev pub less : Number → Amount
-less (Is n) = By (minus n)
-less None = NoAmount
-
 -- `-`, `+` or no sign, and a number: -200 to 177
-unfoldable pub amount_of : Text → Amount
-amount_of [] = NoAmount
+unfoldable pub amount_of : Text → Option ℤ
+amount_of [] = None
 amount_of (c ∷ t) =
-    cond (eqb c 45) (less (octal_up_to 0o200 t))
-    (cond (eqb c 43) (plus (octal_up_to 0o177 t)) (plus (octal_up_to 0o177 (c ∷ t))))
+    cond (eqb c 45) (option_map minus (octal_up_to 0o200 t))
+    (cond (eqb c 43) (option_map pos (octal_up_to 0o177 t)) (option_map pos (octal_up_to 0o177 (c ∷ t))))

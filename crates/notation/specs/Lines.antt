@@ -1,49 +1,56 @@
 -- What a line says (docs/NOTATION.md, "Lines" and "A bad line").
-use Rattle.std.specs.Prelude.{ℕ, cond, List, [], ◌∷◌, eqb, ℤ}
-use Rattle.rules.specs.declared.Event.TheVariants.{Refer, Read, Write, Instruction, Interrupt, Change, Init}
+use Rattle.std.specs.Prelude.{ℕ, cond, List, [], ◌∷◌, ℤ, Result, Ok, Err}
+use Rattle.std.specs.Option.{ok_or}
+use Rattle.rules.specs.declared.Event.TheVariants.{Refer, Read, Write, Instruction, Interrupt, Change, Init as AnInit}
 use Rattle.lines.specs.Chars.{chars}
 use Rattle.lines.specs.Lines.{Text}
 use Rattle.notation.specs.Words.{first_word, after_word, empty}
-use Rattle.notation.specs.Fields.{place_or, number_of, amount_of}
+use Rattle.notation.specs.Fields.{looked_up, number_of, amount_of}
 use Rattle.notation.specs.declared.Field.{Field}
 use Rattle.notation.specs.declared.Field.TheVariants.{Mode, Space, Access, Phase, Va, Value, Vector, Address, Register, Byte as AByte}
-use Rattle.notation.specs.declared.Number.{Number}
-use Rattle.notation.specs.declared.Number.TheVariants.{Is, None}
-use Rattle.notation.specs.declared.Amount.{Amount}
-use Rattle.notation.specs.declared.Amount.TheVariants.{By, None as NoAmount}
 use Rattle.notation.specs.declared.Expected.{Expected}
-use Rattle.notation.specs.declared.Expected.TheVariants.{Name, Field as AField, Amount as AnAmount, End}
+use Rattle.notation.specs.declared.Expected.TheVariants.{Name as AName, Field as AField, Amount as AnAmount, End}
 use Rattle.notation.specs.declared.Line.{Line}
-use Rattle.notation.specs.declared.Line.TheVariants.{Blank, Event as AnEvent, Byte, Bad}
+use Rattle.notation.specs.declared.Line.TheVariants.{Blank, Event as AnEvent, Byte}
+use Rattle.notation.specs.declared.named.Name.{Name}
+use Rattle.notation.specs.declared.named.Name.TheVariants.{Reference as NReference, Read as NRead, Write as NWrite, Instruction as NInstruction, Interrupt as NInterrupt, Change as NChange, Init as NInit, Byte as NByte}
 
--- the names, by their places
-abbrev pub names : List Text
+-- what a line says, or what was expected of it
+abbrev pub Said : Type 0
+Said = Result Line Expected
+
+abbrev pub names : List (Text × Name)
 names =
-    chars "reference" ∷
-    chars "read" ∷
-    chars "write" ∷ chars "instruction" ∷ chars "interrupt" ∷ chars "change" ∷ chars "init" ∷ chars "byte" ∷ []
+    (chars "reference", NReference) ∷
+    (chars "read", NRead) ∷
+    (chars "write", NWrite) ∷
+    (chars "instruction", NInstruction) ∷
+    (chars "interrupt", NInterrupt) ∷ (chars "change", NChange) ∷ (chars "init", NInit) ∷ (chars "byte", NByte) ∷ []
 
--- what follows a word that stands for a number, or the word that was expected
-abbrev pub given : Expected → Number → (ℕ → Line) → Line
-given expected (Is n) next = next n
-given expected None next = Bad expected
+-- what follows a word that stands for something, or the word that was expected
+abbrev pub given : {A : Type 0} → Result A Expected → (A → Said) → Said
+given (Ok a) next = next a
+given (Err expected) next = Err expected
 
-abbrev pub given_amount : Amount → (ℤ → Line) → Line
-given_amount (By z) next = next z
-given_amount NoAmount next = Bad AnAmount
+-- a field is the first word of a text
+unfoldable pub field_of : Field → Text → Result ℕ Expected
+field_of f t = ok_or (number_of f (first_word t)) (AField f)
 
--- a field is the first word of a text; its number and the text after it go on
-unfoldable pub field : Field → Text → (ℕ → Text → Line) → Line
-field f t next = given (AField f) (number_of f (first_word t)) (λ n. next n (after_word t))
+unfoldable pub amount_at : Text → Result ℤ Expected
+amount_at t = ok_or (amount_of (first_word t)) AnAmount
 
-unfoldable pub amount : Text → (ℤ → Text → Line) → Line
-amount t next = given_amount (amount_of (first_word t)) (λ z. next z (after_word t))
+-- its number and the text after it go on
+abbrev pub field : Field → Text → (ℕ → Text → Said) → Said
+field f t next = given (field_of f t) (λ n. next n (after_word t))
+
+abbrev pub amount : Text → (ℤ → Text → Said) → Said
+amount t next = given (amount_at t) (λ z. next z (after_word t))
 
 -- no word follows the last field
-abbrev pub ending : Line → Text → Line
-ending l t = cond (empty (first_word t)) l (Bad End)
+abbrev pub ending : Line → Text → Said
+ending l t = cond (empty (first_word t)) (Ok l) (Err End)
 
-unfoldable pub reference_line : Text → Line
+unfoldable pub reference_line : Text → Said
 reference_line t =
     field Mode t
     (λ mode t₁.
@@ -57,28 +64,27 @@ reference_line t =
     (λ va t₅. ending (AnEvent (Refer (record { mode = mode; space = space; access = access; phase = phase; va = va }))) t₅)))))
 
 -- a name with one field
-abbrev pub single : Field → (ℕ → Line) → Text → Line
+abbrev pub single : Field → (ℕ → Line) → Text → Said
 single f says t = field f t (λ n t₁. ending (says n) t₁)
 
-unfoldable pub write_line : Text → Line
+unfoldable pub write_line : Text → Said
 write_line t = field Address t (λ address t₁. field Value t₁ (λ value t₂. ending (AnEvent (Write address value)) t₂))
 
-unfoldable pub change_line : Text → Line
+unfoldable pub change_line : Text → Said
 change_line t = field Register t (λ register t₁. amount t₁ (λ z t₂. ending (AnEvent (Change register z)) t₂))
 
--- by the name's place in `names`, and the text after the name: reference, read, write, instruction, interrupt, change, init, byte
-unfoldable pub named_line : ℕ → Text → Line
-named_line k t =
-    cond (eqb k 0) (reference_line t)
-    (cond (eqb k 1) (single Address (λ address. AnEvent (Read address)) t)
-    (cond (eqb k 2) (write_line t)
-    (cond (eqb k 3) (single Va (λ va. AnEvent (Instruction va)) t)
-    (cond (eqb k 4) (single Vector (λ vector. AnEvent (Interrupt vector)) t)
-    (cond (eqb k 5) (change_line t)
-    (cond (eqb k 6) (ending (AnEvent Init) t)
-    (single AByte (λ b. Byte b) t)))))))
+-- by the name and the text after it
+abbrev pub named_line : Name → Text → Said
+named_line NReference t = reference_line t
+named_line NRead t = single Address (λ address. AnEvent (Read address)) t
+named_line NWrite t = write_line t
+named_line NInstruction t = single Va (λ va. AnEvent (Instruction va)) t
+named_line NInterrupt t = single Vector (λ vector. AnEvent (Interrupt vector)) t
+named_line NChange t = change_line t
+named_line NInit t = ending (AnEvent AnInit) t
+named_line NByte t = single AByte (λ b. Byte b) t
 
-unfoldable pub line_of : Text → Line
+unfoldable pub line_of : Text → Said
 line_of t =
-    cond (empty (first_word t)) Blank
-    (given Name (place_or None (first_word t) 0 names) (λ k. named_line k (after_word t)))
+    cond (empty (first_word t)) (Ok Blank)
+    (given (ok_or (looked_up (first_word t) names) AName) (λ name. named_line name (after_word t)))

@@ -1,120 +1,108 @@
 // What a word stands for in its field.
 
-ghost use Rattle.std.specs.Prelude.{◌≡◌, ◌≤◌, length};
-ghost use Rattle.notation.specs.Words.{words_in};
-ghost use Rattle.notation.specs.Fields.{octal_up_to, place_or, number_of, plus, less, amount_of};
-ghost use Rattle.notation.specs.Lines.{names};
-ghost use Rattle.notation.specs.declared.Number.TheVariants.{None};
+ghost use Rattle.std.specs.Prelude.{◌≡◌, ◌≤◌, IfSome, pos, ◌≤ℤ◌};
+ghost use Rattle.std.specs.Option.{option_map};
+ghost use Rattle.notation.specs.Fields.{looked_up, words_of, most_of, octal_up_to, number_of, amount_of};
 
-use crate::{Amount, Field, Number, words};
+use crate::Field;
 
-// the place of a word among names parted by blanks, from 0 on, or else another number
-fn place(word: &[u8], names: &[u8], other: Number) -> Number
-    requires { length names.now ≤ 100 }
-    ensures { result ≡ place_or other word.now 0 (words_in names.now) }
-{
-    let mut left = names;
-    let mut n = 0;
-    loop {
-        let name = words::first_word(left);
-        if name.len() == 0 {
-            return other;
+impl Field {
+    // the largest number that it holds
+    fn most(self) -> u32
+        ensures { (result ≡ most_of self) × (result ≤ 0o77777777) }
+    {
+        match self {
+            Field::Mode | Field::Space | Field::Access | Field::Phase => 0o377,
+            Field::Va | Field::Value | Field::Vector => 0o177777,
+            Field::Address => 0o77777777,
+            Field::Register | Field::Byte => 0o377,
         }
-        if words::same(word, name) {
-            return Number::Is(n);
-        }
-        let next = words::after_word(left);
-        left = next;
-        n += 1;
     }
-}
 
-// the place of an event's name
-pub(crate) fn name(word: &[u8]) -> Number
-    ensures { result ≡ place_or None word.now 0 names }
-{
-    place(
-        word,
-        b"reference read write instruction interrupt change init byte",
-        Number::None,
-    )
+    // the number of one of its own words
+    fn word(self, word: &[u8]) -> Option<u32>
+        ensures { result ≡ looked_up word.now (words_of self) }
+    {
+        match self {
+            Field::Mode => match word {
+                b"kernel" => Some(0),
+                b"supervisor" => Some(1),
+                b"illegal" => Some(2),
+                b"user" => Some(3),
+                _ => None,
+            },
+            Field::Space => match word {
+                b"instruction" => Some(0),
+                b"data" => Some(1),
+                _ => None,
+            },
+            Field::Access => match word {
+                b"read" => Some(0),
+                b"write" => Some(1),
+                _ => None,
+            },
+            Field::Phase => match word {
+                b"instruction" => Some(0),
+                b"trap" => Some(1),
+                _ => None,
+            },
+            Field::Va
+            | Field::Value
+            | Field::Vector
+            | Field::Address
+            | Field::Register
+            | Field::Byte => None,
+        }
+    }
+
+    // by one of its words, or as a number up to its limit
+    #[tactic(auto, unfolding(crate::specs::Fields::number_of))]
+    pub(crate) fn number(self, word: &[u8]) -> Option<u32>
+        ensures { result ≡ number_of self word.now }
+    {
+        self.word(word).or(octal(word, self.most()))
+    }
 }
 
 // a number in octal digits, one or more, and at most so large
-fn octal(word: &[u8], most: u32) -> Number
+fn octal(word: &[u8], most: u32) -> Option<u32>
     requires { most ≤ 0o77777777 }
-    ensures { result ≡ octal_up_to most word.now }
+    ensures value { result ≡ octal_up_to most word.now }
+    ensures within { IfSome result (λ n. n ≤ most) }
 {
-    if word.len() == 0 {
-        return Number::None;
+    if word.is_empty() {
+        return None;
     }
     let mut n = 0;
-    let mut i = 0;
-    while i < word.len() {
-        let c = word[i];
-        if c < b'0' || b'7' < c {
-            return Number::None;
-        }
-        n = 8 * n + (c - b'0') as u32;
+    for c in word {
+        let digit @ b'0'..=b'7' = *c else {
+            return None;
+        };
+        n = 8 * n + u32::from(digit - b'0');
         if most < n {
-            return Number::None;
+            return None;
         }
-        i += 1;
     }
-    Number::Is(n)
+    Some(n)
 }
 
-// by the field's words, or as a number up to its limit
-pub(crate) fn number(word: &[u8], f: Field) -> Number
-    ensures { result ≡ number_of f word.now }
+// a number as an amount
+fn signed(digits: &[u8], most: u32) -> Option<i32>
+    requires { most ≤ 0o200 }
+    ensures value { result ≡ option_map pos (octal_up_to most digits.now) }
+    ensures within { IfSome result (λ z. (pos 0 ≤ℤ z) × (z ≤ℤ pos 0o200)) }
 {
-    match f {
-        Field::Mode => place(word, b"kernel supervisor illegal user", octal(word, 0o377)),
-        Field::Space => place(word, b"instruction data", octal(word, 0o377)),
-        Field::Access => place(word, b"read write", octal(word, 0o377)),
-        Field::Phase => place(word, b"instruction trap", octal(word, 0o377)),
-        Field::Va => octal(word, 0o177777),
-        Field::Value => octal(word, 0o177777),
-        Field::Vector => octal(word, 0o177777),
-        Field::Address => octal(word, 0o77777777),
-        Field::Register => octal(word, 0o377),
-        Field::Byte => octal(word, 0o377),
-    }
+    Some(octal(digits, most)?.cast_signed())
 }
 
-// a number to 177 as an amount
-fn plus(digits: &[u8]) -> Amount
-    ensures { result ≡ plus (octal_up_to 0o177 digits.now) }
-{
-    match octal(digits, 0o177) {
-        Number::Is(n) => Amount::By(n as i32),
-        Number::None => Amount::None,
-    }
-}
-
-// a number to 200 as an amount below 0
-fn less(digits: &[u8]) -> Amount
-    ensures { result ≡ less (octal_up_to 0o200 digits.now) }
-{
-    match octal(digits, 0o200) {
-        Number::Is(n) => Amount::By(-(n as i32)),
-        Number::None => Amount::None,
-    }
-}
-
-// by its sign, if it has one
-pub(crate) fn amount(word: &[u8]) -> Amount
+// an amount by its sign, if it has one
+pub(crate) fn amount(word: &[u8]) -> Option<i32>
     ensures { result ≡ amount_of word.now }
 {
-    if word.len() == 0 {
-        return Amount::None;
+    let (sign, digits) = word.split_first()?;
+    match *sign {
+        b'-' => Some(-signed(digits, 0o200)?),
+        b'+' => signed(digits, 0o177),
+        _ => signed(word, 0o177),
     }
-    let sign = word[0];
-    if sign == b'-' {
-        return less(&word[1..]);
-    }
-    if sign == b'+' {
-        return plus(&word[1..]);
-    }
-    plus(word)
 }

@@ -12,8 +12,11 @@ mod fields;
 mod named;
 mod words;
 
+use named::Name;
+use words::Words;
+
 // A field with a number.
-#[derive(Clone, Copy)]
+#[derive(Clone, Copy, Debug, PartialEq, Eq)]
 pub enum Field {
     Mode,
     Space,
@@ -28,7 +31,7 @@ pub enum Field {
 }
 
 // What a line lacks at the first word that does not fit.
-#[derive(Clone, Copy)]
+#[derive(Clone, Copy, Debug, PartialEq, Eq)]
 pub enum Expected {
     // An event's name.
     Name,
@@ -39,42 +42,27 @@ pub enum Expected {
 }
 
 // What a line says.
-#[derive(Clone, Copy)]
+#[derive(Clone, Copy, Debug, PartialEq, Eq)]
 pub enum Line {
     // Nothing: it has no word.
     Blank,
     Event(Event),
     // A byte as it is, for a damaged recording.
     Byte(u8),
-    Bad(Expected),
 }
 
-// The number that a word stands for; none where it does not fit its field.
-#[derive(Clone, Copy)]
-pub enum Number {
-    Is(u32),
-    None,
-}
-
-// The same for an amount.
-#[derive(Clone, Copy)]
-pub enum Amount {
-    By(i32),
-    None,
-}
-
-// What a line says. It is given without its line feed.
-pub fn read_line(line: &[u8]) -> Line
+// What a line says, or what was expected of it. It is given without its line feed.
+#[tactic(auto, unfolding(crate::specs::Lines::line_of))]
+pub fn read_line(line: &[u8]) -> Result<Line, Expected>
     ensures { result ≡ line_of line.now }
 {
-    let word = words::first_word(line);
-    if word.len() == 0 {
-        return Line::Blank;
+    let mut words = Words { left: line };
+    let word = words.word();
+    if word.is_empty() {
+        return Ok(Line::Blank);
     }
-    match fields::name(word) {
-        Number::Is(place) => named::line(place, words::after_word(line)),
-        Number::None => Line::Bad(Expected::Name),
-    }
+    let name = Name::of(word).ok_or(Expected::Name)?;
+    named::line(name, &mut words)
 }
 
 // The place of the first line feed from a place on, or else the text's end; a place beyond the text as it is.
@@ -84,5 +72,5 @@ pub fn line_end(text: &[u8], from: usize) -> usize
     if text.len() < from {
         return from;
     }
-    from + words::run(&text[from..], words::Class::Line)
+    from + words::line_len(&text[from..])
 }

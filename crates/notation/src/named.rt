@@ -1,149 +1,142 @@
-// What a line says, by its name and the text after it.
+// What a line says, by its name and the words after it.
 
-ghost use Rattle.std.specs.Prelude.{◌≡◌};
-ghost use Rattle.notation.specs.Words.{first_word};
-ghost use Rattle.notation.specs.Fields.{number_of};
-ghost use Rattle.notation.specs.Lines.{ending, single, reference_line, write_line, change_line, named_line};
-ghost use Rattle.notation.specs.declared.Field.TheVariants.{Va, Vector, Address, Byte as AByte};
-ghost use Rattle.notation.specs.declared.Line.TheVariants.{Event as AnEvent, Byte};
-ghost use Rattle.rules.specs.declared.Event.TheVariants.{Read, Instruction, Interrupt};
+ghost use Rattle.std.specs.Prelude.{◌≡◌, ◌≤◌, IfOk};
+ghost use Rattle.notation.specs.Words.{after_word};
+ghost use Rattle.notation.specs.Fields.{looked_up, most_of};
+ghost use Rattle.notation.specs.Lines.{names, field_of, amount_at, ending, reference_line, write_line, change_line, named_line};
 
-use crate::{Amount, Expected, Field, Line, Number, fields, words};
+use crate::words::Words;
+use crate::{Expected, Field, Line};
 use rules::{Event, Reference};
 
-// the number of the field that is the first word
-fn field(t: &[u8], f: Field) -> Number
-    ensures { result ≡ number_of f (first_word t.now) }
-{
-    fields::number(words::first_word(t), f)
+// The name that a line begins with.
+#[derive(Clone, Copy, Debug, PartialEq, Eq)]
+pub(crate) enum Name {
+    Reference,
+    Read,
+    Write,
+    Instruction,
+    Interrupt,
+    Change,
+    Init,
+    Byte,
 }
 
-// what the line says, where no word follows
-fn ending(line: Line, t: &[u8]) -> Line
-    ensures { result ≡ ending line t.now }
-{
-    if words::first_word(t).len() == 0 {
-        line
-    } else {
-        Line::Bad(Expected::End)
+impl Name {
+    pub(crate) fn of(word: &[u8]) -> Option<Name>
+        ensures { result ≡ looked_up word.now names }
+    {
+        match word {
+            b"reference" => Some(Name::Reference),
+            b"read" => Some(Name::Read),
+            b"write" => Some(Name::Write),
+            b"instruction" => Some(Name::Instruction),
+            b"interrupt" => Some(Name::Interrupt),
+            b"change" => Some(Name::Change),
+            b"init" => Some(Name::Init),
+            b"byte" => Some(Name::Byte),
+            _ => None,
+        }
     }
 }
 
-fn reference(t: &[u8]) -> Line
-    ensures { result ≡ reference_line t.now }
+impl Words<'_> {
+    // the number of a field, which the first word is
+    #[tactic(auto, unfolding(crate::specs::Lines::field_of))]
+    fn field(&mut self, f: Field) -> Result<u32, Expected>
+        ensures value { result ≡ field_of f self.old.left.now }
+        ensures left { self.new.left.now ≡ after_word self.old.left.now }
+        ensures within { IfOk result (λ n. n ≤ most_of f) }
+    {
+        f.number(self.word()).ok_or(Expected::Field(f))
+    }
+
+    #[tactic(auto, unfolding(crate::specs::Lines::amount_at))]
+    fn amount(&mut self) -> Result<i32, Expected>
+        ensures value { result ≡ amount_at self.old.left.now }
+        ensures left { self.new.left.now ≡ after_word self.old.left.now }
+    {
+        crate::fields::amount(self.word()).ok_or(Expected::Amount)
+    }
+
+    // what the line says, where no word follows
+    fn ending(&mut self, line: Line) -> Result<Line, Expected>
+        ensures { result ≡ ending line self.old.left.now }
+    {
+        if self.word().is_empty() {
+            Ok(line)
+        } else {
+            Err(Expected::End)
+        }
+    }
+}
+
+#[tactic(auto, unfolding(crate::specs::Lines::reference_line))]
+fn reference(words: &mut Words<'_>) -> Result<Line, Expected>
+    ensures { result ≡ reference_line words.old.left.now }
 {
-    let Number::Is(mode) = field(t, Field::Mode) else {
-        return Line::Bad(Expected::Field(Field::Mode));
-    };
-    let t1 = words::after_word(t);
-    let Number::Is(space) = field(t1, Field::Space) else {
-        return Line::Bad(Expected::Field(Field::Space));
-    };
-    let t2 = words::after_word(t1);
-    let Number::Is(access) = field(t2, Field::Access) else {
-        return Line::Bad(Expected::Field(Field::Access));
-    };
-    let t3 = words::after_word(t2);
-    let Number::Is(phase) = field(t3, Field::Phase) else {
-        return Line::Bad(Expected::Field(Field::Phase));
-    };
-    let t4 = words::after_word(t3);
-    let Number::Is(va) = field(t4, Field::Va) else {
-        return Line::Bad(Expected::Field(Field::Va));
-    };
-    let r = Reference {
+    let mode = words.field(Field::Mode)?;
+    let space = words.field(Field::Space)?;
+    let access = words.field(Field::Access)?;
+    let phase = words.field(Field::Phase)?;
+    let va = words.field(Field::Va)? as u16;
+    words.ending(Line::Event(Event::Refer(Reference {
         mode,
         space,
         access,
         phase,
-        va: va as u16,
-    };
-    ending(Line::Event(Event::Refer(r)), words::after_word(t4))
+        va,
+    })))
 }
 
-fn read(t: &[u8]) -> Line
-    ensures { result ≡ single Address (λ address. AnEvent (Read address)) t.now }
+#[tactic(auto, unfolding(crate::specs::Lines::write_line))]
+fn write(words: &mut Words<'_>) -> Result<Line, Expected>
+    ensures { result ≡ write_line words.old.left.now }
 {
-    let Number::Is(address) = field(t, Field::Address) else {
-        return Line::Bad(Expected::Field(Field::Address));
-    };
-    ending(Line::Event(Event::Read { address }), words::after_word(t))
+    let address = words.field(Field::Address)?;
+    let value = words.field(Field::Value)? as u16;
+    words.ending(Line::Event(Event::Write { address, value }))
 }
 
-fn write(t: &[u8]) -> Line
-    ensures { result ≡ write_line t.now }
+#[tactic(auto, unfolding(crate::specs::Lines::change_line))]
+fn change(words: &mut Words<'_>) -> Result<Line, Expected>
+    ensures { result ≡ change_line words.old.left.now }
 {
-    let Number::Is(address) = field(t, Field::Address) else {
-        return Line::Bad(Expected::Field(Field::Address));
-    };
-    let t1 = words::after_word(t);
-    let Number::Is(value) = field(t1, Field::Value) else {
-        return Line::Bad(Expected::Field(Field::Value));
-    };
-    let event = Event::Write {
-        address,
-        value: value as u16,
-    };
-    ending(Line::Event(event), words::after_word(t1))
+    let register = words.field(Field::Register)?;
+    let amount = words.amount()?;
+    words.ending(Line::Event(Event::Change { register, amount }))
 }
 
-fn instruction(t: &[u8]) -> Line
-    ensures { result ≡ single Va (λ va. AnEvent (Instruction va)) t.now }
+// what the words after a name say
+pub(crate) fn line(name: Name, words: &mut Words<'_>) -> Result<Line, Expected>
+    ensures { result ≡ named_line name words.old.left.now }
 {
-    let Number::Is(va) = field(t, Field::Va) else {
-        return Line::Bad(Expected::Field(Field::Va));
-    };
-    let event = Event::Instruction { va: va as u16 };
-    ending(Line::Event(event), words::after_word(t))
-}
-
-fn interrupt(t: &[u8]) -> Line
-    ensures { result ≡ single Vector (λ vector. AnEvent (Interrupt vector)) t.now }
-{
-    let Number::Is(vector) = field(t, Field::Vector) else {
-        return Line::Bad(Expected::Field(Field::Vector));
-    };
-    let event = Event::Interrupt {
-        vector: vector as u16,
-    };
-    ending(Line::Event(event), words::after_word(t))
-}
-
-fn change(t: &[u8]) -> Line
-    ensures { result ≡ change_line t.now }
-{
-    let Number::Is(register) = field(t, Field::Register) else {
-        return Line::Bad(Expected::Field(Field::Register));
-    };
-    let t1 = words::after_word(t);
-    let Amount::By(amount) = fields::amount(words::first_word(t1)) else {
-        return Line::Bad(Expected::Amount);
-    };
-    let event = Event::Change { register, amount };
-    ending(Line::Event(event), words::after_word(t1))
-}
-
-fn byte(t: &[u8]) -> Line
-    ensures { result ≡ single AByte (λ b. Byte b) t.now }
-{
-    let Number::Is(b) = field(t, Field::Byte) else {
-        return Line::Bad(Expected::Field(Field::Byte));
-    };
-    ending(Line::Byte(b as u8), words::after_word(t))
-}
-
-// the names by their places
-pub(crate) fn line(place: u32, t: &[u8]) -> Line
-    ensures { result ≡ named_line place t.now }
-{
-    match place {
-        0 => reference(t),
-        1 => read(t),
-        2 => write(t),
-        3 => instruction(t),
-        4 => interrupt(t),
-        5 => change(t),
-        6 => ending(Line::Event(Event::Init), t),
-        _ => byte(t),
+    match name {
+        Name::Reference => reference(words),
+        Name::Read => {
+            let event = Event::Read {
+                address: words.field(Field::Address)?,
+            };
+            words.ending(Line::Event(event))
+        }
+        Name::Write => write(words),
+        Name::Instruction => {
+            let event = Event::Instruction {
+                va: words.field(Field::Va)? as u16,
+            };
+            words.ending(Line::Event(event))
+        }
+        Name::Interrupt => {
+            let event = Event::Interrupt {
+                vector: words.field(Field::Vector)? as u16,
+            };
+            words.ending(Line::Event(event))
+        }
+        Name::Change => change(words),
+        Name::Init => words.ending(Line::Event(Event::Init)),
+        Name::Byte => {
+            let b = words.field(Field::Byte)? as u8;
+            words.ending(Line::Byte(b))
+        }
     }
 }

@@ -1,81 +1,57 @@
 // The words of a text, as parts of it.
 
 ghost use Rattle.std.specs.Prelude.{◌≡◌, ◌≤◌, length};
-ghost use Rattle.notation.specs.Words.{blank, before, after, first_word, after_word, same};
-ghost use Rattle.notation.specs.Classes.{test_of};
-
-// What a run of characters is made of.
-#[derive(Clone, Copy)]
-pub(crate) enum Class {
-    Blanks,
-    Word,
-    Line,
-}
+ghost use Rattle.std.specs.List.{prefix_len};
+ghost use Rattle.notation.specs.Words.{blank as blank_of, in_word as in_word_of, not_feed, first_word, after_word};
 
 fn blank(c: u8) -> bool
-    ensures { result ≡ blank c }
+    ensures { result ≡ blank_of c }
 {
-    (c == b' ') | (c == b'\t') | (c == b'\r')
+    matches!(c, b' ' | b'\t' | b'\r')
 }
 
-fn passes(class: Class, c: u8) -> bool
-    ensures { result ≡ test_of class c }
+fn in_word(c: u8) -> bool
+    ensures { result ≡ in_word_of c }
 {
-    match class {
-        Class::Blanks => blank(c),
-        Class::Word => !(blank(c) | (c == b'#')),
-        Class::Line => c != b'\n',
+    !(blank(c) || c == b'#')
+}
+
+// how many blanks a text begins with
+fn blanks(t: &[u8]) -> usize
+    ensures { (result ≡ prefix_len blank_of t.now) × (result ≤ length t.now) }
+{
+    t.iter().take_while(|c| blank(**c)).count()
+}
+
+// how many characters of a word it begins with
+fn word_len(t: &[u8]) -> usize
+    ensures { (result ≡ prefix_len in_word_of t.now) × (result ≤ length t.now) }
+{
+    t.iter().take_while(|c| in_word(**c)).count()
+}
+
+// how many characters stand before its first line feed
+pub(crate) fn line_len(t: &[u8]) -> usize
+    ensures { (result ≡ prefix_len not_feed t.now) × (result ≤ length t.now) }
+{
+    t.iter().take_while(|c| **c != b'\n').count()
+}
+
+// The words of a line that are left.
+#[derive(Drop)]
+pub(crate) struct Words<'a> {
+    pub(crate) left: &'a [u8],
+}
+
+impl<'a> Words<'a> {
+    // the first word, empty where there is none; what follows it is left
+    #[tactic(auto, unfolding(crate::specs::Words::first_word, crate::specs::Words::after_word))]
+    pub(crate) fn word(&mut self) -> &'a [u8]
+        ensures { (result.now ≡ first_word self.old.left.now) × (self.new.left.now ≡ after_word self.old.left.now) }
+    {
+        let text = &self.left[blanks(self.left)..];
+        let (word, left) = text.split_at(word_len(text));
+        self.left = left;
+        word
     }
-}
-
-// the length of the run at the start of a text
-pub(crate) fn run(t: &[u8], class: Class) -> usize
-    ensures { (result ≡ length (before (test_of class) t.now)) × (result ≤ length t.now) }
-{
-    let mut n = 0;
-    while n < t.len() && passes(class, t[n]) {
-        n += 1;
-    }
-    n
-}
-
-// what follows that run
-fn after(t: &[u8], class: Class) -> &[u8]
-    ensures { result.now ≡ after (test_of class) t.now }
-{
-    let n = run(t, class);
-    &t[n..]
-}
-
-// the first word of a text, empty where it has none
-pub(crate) fn first_word(t: &[u8]) -> &[u8]
-    ensures { result.now ≡ first_word t.now }
-{
-    let word = after(t, Class::Blanks);
-    let n = run(word, Class::Word);
-    &word[..n]
-}
-
-// what follows it
-pub(crate) fn after_word(t: &[u8]) -> &[u8]
-    ensures { result.now ≡ after_word t.now }
-{
-    after(after(t, Class::Blanks), Class::Word)
-}
-
-// whether two words are the same
-pub(crate) fn same(a: &[u8], b: &[u8]) -> bool
-    ensures { result ≡ same a.now b.now }
-{
-    if a.len() != b.len() {
-        return false;
-    }
-    let mut i = 0;
-    while i < a.len() {
-        if a[i] != b[i] {
-            return false;
-        }
-        i += 1;
-    }
-    true
 }

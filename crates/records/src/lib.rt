@@ -135,6 +135,7 @@ fn change_at(s: &[u8], at: usize) -> Event
 }
 
 impl Cursor {
+    #[tactic(auto, using(crate::proofs::Numbers::unknown_tells), unfolding(crate::specs::Records::record_at))]
     pub fn read(self, s: &[u8]) -> Found
         ensures { result ≡ record_at s.now self.at }
     {

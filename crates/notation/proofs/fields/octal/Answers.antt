@@ -1,32 +1,38 @@
--- `octal` meets its contract: a digit goes on with the number, and each way out is a case of the definition.
-use mathlib.Core.Logic.{⊎_elim}
-use native.Mathlib.Omega.{arith}
-use lib.ListN.{get_or}
-use borrow.Author.Rules.{rules}
-use Rattle.notation.proofs.Octals.{below-digits, above-digits, no_digits, begins, no_digit, one_more, exceeds, complete}
+-- The next character is a digit and goes into the number, or the word is no number of its field.
+use Rattle.std.proofs.Common.{arith, eqb-true, get_or, sym, ◌∙◌}
+use Rattle.std.proofs.lemmas.Bool.{eqb-false}
+use Rattle.notation.proofs.Octals.{no_digits, begins, below-digits, above-digits, one_more, no_digit, exceeds, complete}
 use Rattle.notation.proofs.fields.octal.Goals as goal
 
-pub returns-then-word-eq0 : goal.returns-then-word-eq0
-returns-then-word-eq0 c = no_digits _ _ c.if-word-eq0.true
+pub returns-then-is_empty-clause-value : goal.returns-then-is_empty-clause-value
+returns-then-is_empty-clause-value c =
+    no_digits _ _ (eqb-true _ _ (sym c.is_empty.ensures ∙ c.if-is_empty.true))
 
-pub loop-i-init : goal.loop-i-init
-loop-i-init c = (search rules, begins _ _ c.if-word-eq0.false)
+pub loop-c-init : goal.loop-c-init
+loop-c-init c = record {
+  left = begins _ _ (eqb-false _ _ (sym c.is_empty.ensures ∙ c.if-is_empty.false));
+  within = omega arith;
+}
 
-pub returns-then-c-lt48 : goal.returns-then-c-lt48
-returns-then-c-lt48 c =
-    let digit = get_or c.args.word.now c.loop-i.i 0 in
-    no_digit _ _ _ _ c.loop-i.invariant.1 c.loop-i-test.true
-    (⊎_elim (λ w. below-digits digit w) (λ w. above-digits digit (omega arith)) c.then-c-lt48.either)
+pub loop-c-preserved : goal.loop-c-preserved
+loop-c-preserved c = let l = c.loop-c in record {
+  left = rw c.from.ensures (one_more _ _ _ _ l.invariant.left c.loop-c-test.true (omega arith) (omega arith));
+  within = omega arith;
+}
 
-pub returns-then-most-n : goal.returns-then-most-n
-returns-then-most-n c =
-    exceeds _ _ _ _ c.loop-i.invariant.1 c.loop-i-test.true c.if-c-lt48.false (omega arith) c.if-most-n.true
+pub returns-in_default-clause-value : goal.returns-in_default-clause-value
+returns-in_default-clause-value c =
+    no_digit _ _ _ _ c.loop-c.invariant.left c.loop-c-test.true (below-digits (get_or c.args.word.now c.loop-c.c-index 0) (omega arith))
 
-pub loop-i-preserved : goal.loop-i-preserved
-loop-i-preserved c = (
-  omega arith,
-  one_more _ _ _ _ c.loop-i.invariant.1 c.loop-i-test.true c.if-c-lt48.false (omega arith),
-)
+pub returns-in_default-2-clause-value : goal.returns-in_default-2-clause-value
+returns-in_default-2-clause-value c =
+    no_digit _ _ _ _ c.loop-c.invariant.left c.loop-c-test.true (above-digits (get_or c.args.word.now c.loop-c.c-index 0) (omega arith))
 
-pub returns : goal.returns
-returns c = let loop = c.loop-i in complete _ _ _ _ loop.invariant.1 c.loop-i-test.false loop.invariant.0.1
+pub returns-then-most-n-clause-value : goal.returns-then-most-n-clause-value
+returns-then-most-n-clause-value c =
+    exceeds _ _ _ _ c.loop-c.invariant.left c.loop-c-test.true (omega arith) (omega arith) (omega (arith, c.from.ensures))
+
+pub returns-clause-value : goal.returns-clause-value
+returns-clause-value c =
+    let l = c.loop-c in
+    complete _ _ _ _ l.invariant.left c.loop-c-test.false l.invariant.within
