@@ -13,8 +13,7 @@ ghost use Rattle.account.specs.Surveys.{begins, how_by, trail, surveyed, report_
 use auditing::Reason;
 use meetings::Meeting;
 use pieces::{Begun, How, Seen};
-use rules::{Refusal, Store, WORDS};
-use ruling::SR0;
+use rules::{Refusal, SR0, Store, WORDS};
 
 // What is carried from record to record.
 #[derive(Clone, Copy, Debug, PartialEq, Eq)]

@@ -8,8 +8,7 @@ ghost use Rattle.widening.specs.Widens.{keeps_blocks, keeps_rights};
 ghost use Rattle.auditing.specs.Verdicts.{verdict_of, broken_by};
 ghost use Rattle.auditing.specs.Places.{left_on, par_verdict, pdr_verdict, place_verdict};
 
-use decode::{SR0, SR3};
-use rules::{Event, Refusal, Store};
+use rules::{Event, Refusal, SR0, SR3, Store};
 
 // The premises of demand 3 on a step, in their order.
 #[derive(Clone, Copy, Debug, PartialEq, Eq)]

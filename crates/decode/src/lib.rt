@@ -6,16 +6,7 @@ ghost use Rattle.std.specs.Prelude.{◌≡◌};
 ghost use Rattle.rules.specs.Addresses.{in_registers};
 ghost use Rattle.decode.specs.Parts.{place_at, mode_at, status_at};
 
-use rules::Mode;
-
-// Where the four status words stand in a store.
-pub const SR0: usize = 96;
-
-pub const SR1: usize = 97;
-
-pub const SR2: usize = 98;
-
-pub const SR3: usize = 99;
+use rules::{Mode, SR0, SR1, SR2, SR3};
 
 // The mode whose registers fill these 64 bytes of the I/O page.
 #[tactic(auto, unfolding(crate::specs::Parts::mode_at))]

@@ -6,8 +6,7 @@ ghost use Rattle.rules.specs.Step.{step};
 ghost use Rattle.rules.specs.declared.Event.TheVariants.{Change};
 ghost use Rattle.events.specs.Changes.{byte_of, entered};
 
-use rules::{Answer, Refusal, Store, WORDS};
-use ruling::{SR0, SR1};
+use rules::{Answer, Refusal, SR0, SR1, Store, WORDS};
 
 // The byte that goes to SR1: the amount in five bits of two's complement, then the register. Register 0 to 7, amount -16 to 15 but not 0.
 #[tactic(auto, unfolding(crate::specs::Changes::byte_of))]

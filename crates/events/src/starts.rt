@@ -6,8 +6,7 @@ ghost use Rattle.rules.specs.Step.{step};
 ghost use Rattle.rules.specs.declared.Event.TheVariants.{Instruction, Interrupt, Init};
 ghost use Rattle.events.specs.Starts.{start_of};
 
-use rules::{Answer, Refusal, WORDS};
-use ruling::{SR0, SR1, SR2, SR3};
+use rules::{Answer, Refusal, SR0, SR1, SR2, SR3, WORDS};
 
 // Unless frozen, SR1 becomes 0 and SR2 the number.
 #[tactic(auto, unfolding(crate::specs::Starts::start_of, rules::specs::Others::started))]

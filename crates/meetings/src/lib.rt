@@ -8,8 +8,8 @@ ghost use Rattle.rules.specs.Modes.{mode_number};
 ghost use Rattle.meetings.specs.Parting.{parting_of};
 ghost use Rattle.meetings.specs.Pass.{first_block, end_block, met, sighted, page_pass, mode_pass, whole_pass};
 
-use rules::{Mode, Refusal, Store};
-use ruling::{Page, SR3};
+use rules::{Mode, Refusal, SR3, Store};
+use ruling::Page;
 use std::ops::Range;
 
 // A block that two modes reach, and a page of each, by its place among the 48.

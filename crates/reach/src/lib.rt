@@ -8,8 +8,7 @@ ghost use Rattle.rules.specs.Modes.{mode_number};
 ghost use Rattle.widening.specs.Reaches.{pages_of as pages_of_mode, reaches};
 ghost use Rattle.reach.specs.Reaching.{reaching_of, holds};
 
-use rules::{Mode, Refusal, Store};
-use ruling::SR3;
+use rules::{Mode, Refusal, SR3, Store};
 
 // How many pages SR3 lets a mode use, from its first on: the eight of its I set, and the eight of its D set if SR3 enables it.
 pub fn pages(mode: Mode, sr3: u16) -> usize

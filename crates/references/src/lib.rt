@@ -10,8 +10,8 @@ ghost use Rattle.rules.specs.Step.{step};
 ghost use Rattle.rules.specs.declared.Event.TheVariants.{Refer};
 ghost use Rattle.references.specs.Accepted.{numbers, number_of, flag_of, accepted_of};
 
-use rules::{Answer, Mode, Reference, Refusal, Store, WORDS};
-use ruling::{Flags, Page, SR0, SR3};
+use rules::{Answer, Mode, Reference, Refusal, SR0, SR3, Store, WORDS};
+use ruling::{Flags, Page};
 
 // A reference whose numbers are accepted: its mode, none for mode 2; in the data space; a write; in an interrupt or trap sequence.
 #[derive(Clone, Copy)]

@@ -11,8 +11,7 @@ ghost use Rattle.rules.specs.declared.Event.TheVariants.{Read, Write};
 ghost use Rattle.registers.specs.Found.{found_of};
 ghost use Rattle.registers.specs.Taken.{taken_of};
 
-use decode::{SR0, SR3};
-use rules::{Answer, Refusal, Store, WORDS};
+use rules::{Answer, Refusal, SR0, SR3, Store, WORDS};
 
 // The register at an address, or the lowest of 6, 7 and 8.
 #[tactic(auto, using(crate::proofs::Seeking::or_none), unfolding(crate::specs::Found::found_of))]

@@ -15,6 +15,15 @@ pub const WORDS: usize = 100;
 // A store of the right length: 48 PARs, their PDRs in the same order, SR0 to SR3.
 pub type Store = [u16; WORDS];
 
+// Where the four status words stand in it.
+pub const SR0: usize = 96;
+
+pub const SR1: usize = 97;
+
+pub const SR2: usize = 98;
+
+pub const SR3: usize = 99;
+
 // A reference (01, "A reference"). The numbers are as the caller gives them; rules and refusals judge them.
 #[derive(Clone, Copy, Debug, PartialEq, Eq)]
 pub struct Reference {

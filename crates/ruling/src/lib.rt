@@ -10,7 +10,6 @@ ghost use Rattle.rules.specs.References.{marks_of, abort_flags, sr0_after};
 ghost use Rattle.rules.specs.declared.Answer.TheVariants.{Aborted};
 ghost use Rattle.ruling.specs.Rulings.{ruling_of};
 
-pub use decode::{SR0, SR1, SR2, SR3};
 use rules::{Answer, Right};
 
 // A page as a reference finds it: its place among the 48, and its two words.
