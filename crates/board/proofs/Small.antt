@@ -116,5 +116,5 @@ six_bits-small (Some place) h = omega arith
 six_bits-small None h = omega arith
 
 -- as a caller meets it
-pub small : {a : Paper} {m : List ℕ} (l : List ℕ) (e : Event) → Typed e → (a, m) ≡ step l e → Small a
-small l e t h = subst (λ (o : Paper × List ℕ). Small o.0) (sym h) (answers_small l e t)
+pub small : (a : Paper) (m l : List ℕ) (e : Event) → (a, m) ≡ step l e → Typed e → Small a
+small a m l e h t = subst (λ (o : Paper × List ℕ). Small o.0) (sym h) (answers_small l e t)

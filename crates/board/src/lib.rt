@@ -30,15 +30,14 @@ fn code(a: Result<Answer, Refusal>) -> u32
         Ok(Answer::Granted { byte, trap, served }) => {
             0x10000000 + u32::from(trap) * 0x01000000 + six_bits(served) * 0x00040000 + byte
         }
-        Ok(Answer::Aborted {
-            nonresident,
-            length,
-            readonly,
-        }) => {
-            0x20000000
-                + u32::from(nonresident) * 4
-                + u32::from(length) * 2
-                + u32::from(readonly)
+        Ok(
+            Answer::Aborted {
+                nonresident,
+                length,
+                readonly,
+            },
+        ) => {
+            0x20000000 + u32::from(nonresident) * 4 + u32::from(length) * 2 + u32::from(readonly)
         }
         Ok(Answer::Word(w)) => 0x30000000 + u32::from(w),
         Ok(Answer::Done) => 0x40000000,
@@ -68,6 +67,7 @@ pub fn kt11c_reference(
     ))
 }
 
+#[tactic(auto, using(crate::proofs::Small::small))]
 pub fn kt11c_read(store: &[u16], address: u32) -> u32
     ensures { (result, store.now) ≡ coded (step store.now (Read address)) }
 {

@@ -1,10 +1,7 @@
--- `kt11c_instruction` meets its contract: the unit's own promise, its answer coded.
+-- `kt11c_instruction` may code its answer: every answer of the unit is small.
 use Rattle.rules.specs.declared.Event.TheVariants.{Instruction}
 use Rattle.board.proofs.Small.{small}
 use Rattle.board.proofs.kt11c_instruction.Goals as goal
 
 pub code-requires : goal.code-requires
-code-requires c = small _ (Instruction _) tt c.instruction_start.ensures
-
-pub returns : goal.returns
-returns c = rw (c.code.ensures, ← c.instruction_start.ensures)
+code-requires c = small _ _ _ (Instruction _) c.instruction_start.ensures tt

@@ -1,10 +1,7 @@
--- `kt11c_interrupt` meets its contract: the unit's own promise, its answer coded.
+-- `kt11c_interrupt` may code its answer: every answer of the unit is small.
 use Rattle.rules.specs.declared.Event.TheVariants.{Interrupt}
 use Rattle.board.proofs.Small.{small}
 use Rattle.board.proofs.kt11c_interrupt.Goals as goal
 
 pub code-requires : goal.code-requires
-code-requires c = small _ (Interrupt _) tt c.interrupt_start.ensures
-
-pub returns : goal.returns
-returns c = rw (c.code.ensures, ← c.interrupt_start.ensures)
+code-requires c = small _ _ _ (Interrupt _) c.interrupt_start.ensures tt
