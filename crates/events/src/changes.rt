@@ -14,7 +14,7 @@ fn byte_of(register: u32, amount: i32) -> Result<u8, Refusal>
     ensures { result ≡ byte_of register amount }
 {
     match (register, amount) {
-        (0..=7, -16..=-1 | 1..=15) => Ok(amount.rem_euclid(32) as u8 * 8 + register as u8),
+        (0..=7, -16..=-1 | 1..=15) => Ok((amount.cast_unsigned() % 32) as u8 * 8 + register as u8),
         _ => Err(Refusal::BadChange),
     }
 }

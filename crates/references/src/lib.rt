@@ -27,11 +27,7 @@ struct Accepted {
 fn flag(number: u32, refusal: Refusal) -> Result<bool, Refusal>
     ensures { result ≡ flag_of number refusal }
 {
-    match number {
-        0 => Ok(false),
-        1 => Ok(true),
-        _ => Err(refusal),
-    }
+    if 1 < number { Err(refusal) } else { Ok(number == 1) }
 }
 
 impl TryFrom<Reference> for Accepted {
