@@ -22,7 +22,7 @@ fn begun(words: &[u64; 11]) -> Begun
                 |i|
                     requires { i < 7 }
                     ensures { result ≡ get_or words.entry.now i 0 % 256 }
-                    { (words[i] % 256) as u8 },
+                { (words[i] % 256) as u8 },
             ),
             count: words[7] as usize,
         },
