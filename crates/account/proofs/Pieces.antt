@@ -1,17 +1,11 @@
 -- A piece's part of the audit, by the tests that come before the records: over, 1, or the records inside the limit.
-use Rattle.std.proofs.Common.{Ok, Err, Some, None}
-use Rattle.account.specs.declared.Tally.{Tally}
+use Rattle.std.proofs.Common.{Ok}
 use Rattle.account.specs.Runs.{Ending}
 use mathlib.Core.Path.{◌≡◌, ap}
 use mathlib.Core.Bool.{Bool, true, false, cond}
-use mathlib.Core.List.{List, ◌++◌}
-use Prim.Native.Nat.{ℕ, ◌+◌, ◌<◌}
-use native.Mathlib.Omega.{arith}
-use lib.ListN.{length, take, length-take}
-use borrow.Author.Tests.{eq-eqb, ne_eqb}
-use Rattle.rules.specs.declared.Refusal.TheVariants.{Store}
-use Rattle.pieces.specs.Limit.{seen_from}
-use Rattle.pieces.specs.Begun.{joined, allowed, judged, to_tell, landed}
+use mathlib.Core.List.{List}
+use Prim.Native.Nat.{ℕ}
+use Rattle.pieces.specs.Begun.{judged, to_tell, landed}
 use Rattle.pieces.specs.declared.Begun.{Begun}
 use Rattle.pieces.specs.declared.Reached.{Reached}
 use Rattle.pieces.specs.declared.How.{How}
@@ -19,7 +13,7 @@ use Rattle.pieces.specs.declared.How.TheVariants.{Spent}
 use Rattle.pieces.proofs.Tells.{tells_none, or_over, or_going}
 use Rattle.account.specs.declared.Course.{Course}
 use Rattle.account.specs.declared.Survey.{Survey}
-use Rattle.account.specs.Surveys.{course, trail, how_by, surveyed}
+use Rattle.account.specs.Surveys.{trail, how_by, surveyed}
 
 tells-going : (b : Begun) (piece : List ℕ) (last : Bool) (l : List ℕ) → b.over ≡ false → to_tell b piece last l ≡ judged b piece last l
 unfolding to_tell

@@ -1,5 +1,5 @@
 -- What a caller has from the promise of `feed`: each piece brings the end nearer.
-use Rattle.std.proofs.Common.{Ok, Err, Some, None}
+use Rattle.std.proofs.Common.{Ok, Err, None}
 use Rattle.account.specs.Runs.{Ending}
 use Rattle.std.proofs.Common.{Ok, None}
 use mathlib.Core.Path.{◌≡◌, refl}

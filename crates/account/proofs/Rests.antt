@@ -1,5 +1,5 @@
 -- A piece and then the rest add to an audit what both add at once: after a stop nothing, and else the rest goes on with the same bytes.
-use Rattle.std.proofs.Common.{Ok, Err, Some, None}
+use Rattle.std.proofs.Common.{Ok, Err, None}
 use Rattle.account.specs.declared.Tally.{Tally}
 use Rattle.account.specs.Runs.{Ending}
 use Rattle.std.proofs.Common.{Ok, None}
