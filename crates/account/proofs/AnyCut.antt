@@ -1,4 +1,7 @@
 -- However a recording is cut, its audit is the uncut one's: by induction over the pieces.
+use Rattle.std.proofs.Common.{Result, Err}
+use Rattle.account.specs.declared.Report.{Report}
+use Rattle.rules.specs.declared.Refusal.{Refusal}
 use mathlib.Core.Path.{◌≡◌, refl, sym, ap, ◌∙◌}
 use mathlib.Core.Bool.{Bool, true, false, ◌||◌}
 use mathlib.Core.List.{List, [], ◌∷◌, ◌++◌, append_assoc}
@@ -14,8 +17,6 @@ use Rattle.pieces.specs.Begun.{all_of, fresh, joined, allowed, inside, beyond, r
 use Rattle.pieces.proofs.States.{few-landed}
 use Rattle.pieces.proofs.Tells.{tells_none, tells-store, tells_records}
 use Rattle.account.specs.declared.Survey.{Survey}
-use Rattle.account.specs.declared.Audited.{Audited}
-use Rattle.account.specs.declared.Audited.TheVariants.{Refused}
 use Rattle.account.specs.Runs.{run}
 use Rattle.account.specs.Reports.{course_of, reported, audit_of}
 use Rattle.account.specs.Surveys.{course, trail, begins, surveyed, course_by, report_of, surveys_of}
@@ -35,7 +36,7 @@ module _ (v : Survey) (piece l : List ℕ) (last : Bool) where
   by_test true w h k = rw (tells_none v.begun piece last l h)
   by_test false true h k =
       rw (tells_records v.begun piece last l h (eqb-true (length l) 100 k))
-      (trailed (beyond v.begun piece) last (inside v.begun piece) v.begun.at 0 v.kept v.broken l).words
+      (trailed (beyond v.begun piece) last (inside v.begun piece) v.begun.at 0 v.tally l).words
   by_test false false h k = rw (tells-store v.begun piece last l h (eqb-false (length l) 100 k))
 
   same_length : length (surveyed l v piece last).1 ≡ length l
@@ -80,11 +81,11 @@ kept_store (p ∷ ps) v l n =
 at_once : (r l : List ℕ) → length l ≡ 100 → final (begins l) r l ≡ course_of (run (records_of r) 0 l)
 unfolding ended_at records_of held_of
 at_once r l w =
-    let t = trail 0 (records_in fresh r true) 0 (begins l).kept (begins l).broken l in
-    let n = (trailed (beyond fresh r) true (inside fresh r) 0 0 (begins l).kept (begins l).broken l).within (omega arith) in
+    let t = trail 0 (records_in fresh r true) 0 (begins l).tally l in
+    let n = (trailed (beyond fresh r) true (inside fresh r) 0 0 (begins l).tally l).within (omega arith) in
     let at : onward fresh t.0.at ≡ t.0.at = omega (arith, n, length-take (allowed fresh) (joined fresh r)) in
     final-going (begins l) r l refl w
-    ∙ ap (λ (i : ℕ). (course t.0.kept t.0.broken i t.0.ending, t.1)) at
+    ∙ ap (λ (i : ℕ). (course t.0.tally i t.0.ending, t.1)) at
     ∙ whole-trail (records_of r) l w
 
 few-fresh : Few fresh
@@ -101,7 +102,7 @@ report_whole : (w : Survey × List ℕ) → length w.1 ≡ 100 → (report_of w.
 unfolding report_of
 report_whole w h = rw (eq-eqb (length w.1) 100 h)
 
-report_store : (w : Survey × List ℕ) → (length w.1 ≡ 100 → ⊥) → ◌≡◌ {A = Audited × List ℕ} (report_of w.1 w.0, w.1) (Refused Store, w.1)
+report_store : (w : Survey × List ℕ) → (length w.1 ≡ 100 → ⊥) → ◌≡◌ {A = Result Report Refusal × List ℕ} (report_of w.1 w.0, w.1) (Err Store, w.1)
 unfolding report_of
 report_store w h = rw (ne_eqb (length w.1) 100 h)
 
@@ -109,7 +110,7 @@ audit_whole : (r l : List ℕ) → length l ≡ 100 → audit_of l r ≡ reporte
 unfolding audit_of
 audit_whole r l h = rw (eq-eqb (length l) 100 h)
 
-audit_store : (r l : List ℕ) → (length l ≡ 100 → ⊥) → audit_of l r ≡ (Refused Store, l)
+audit_store : (r l : List ℕ) → (length l ≡ 100 → ⊥) → audit_of l r ≡ (Err Store, l)
 unfolding audit_of
 audit_store r l h = rw (ne_eqb (length l) 100 h)
 
@@ -133,7 +134,7 @@ module _ (ps : List (List ℕ)) (piece l : List ℕ) where
       let k = kept_store ps (begins l) l n in
       let m = same_store surveys.0 piece surveys.1 true (λ h. n (sym (ap (λ (s : List ℕ). length s) k) ∙ h)) ∙ k in
       report_store last (λ h. n (sym (ap (λ (s : List ℕ). length s) m) ∙ h))
-      ∙ ap (λ (s : List ℕ). (Refused Store, s)) m
+      ∙ ap (λ (s : List ℕ). (Err Store, s)) m
       ∙ sym (audit_store (all_of ps ++ piece) l n)
 
   by-words : (t : Bool) → eqb (length l) 100 ≡ t → (report_of last.1 last.0, last.1) ≡ audit_of l (all_of ps ++ piece)

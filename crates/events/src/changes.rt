@@ -1,74 +1,47 @@
 // A change of a general register, noted in SR1.
 
-ghost use Rattle.std.specs.Prelude.{◌≡◌, true, not, ◌<◌, ◌≤◌, length};
+ghost use Rattle.std.specs.Prelude.{◌≡◌};
 ghost use Rattle.rules.specs.Paper.{paper};
-ghost use Rattle.rules.specs.Words.{frozen};
-ghost use Rattle.rules.specs.Others.{good_amount, five_bits, change_byte};
 ghost use Rattle.rules.specs.Step.{step};
 ghost use Rattle.rules.specs.declared.Event.TheVariants.{Change};
-ghost use Rattle.events.specs.Changes.{entered};
+ghost use Rattle.events.specs.Changes.{byte_of, entered};
 
-use rules::{Answer, Refusal};
+use rules::{Answer, Refusal, Store, WORDS};
+use ruling::{SR0, SR1};
 
-// -16 to 15 but not 0
-fn good_amount(amount: i32) -> bool
-    ensures { result ≡ good_amount amount }
+// The byte that goes to SR1: the amount in five bits of two's complement, then the register. Register 0 to 7, amount -16 to 15 but not 0.
+#[tactic(auto, unfolding(crate::specs::Changes::byte_of))]
+fn byte_of(register: u32, amount: i32) -> Result<u8, Refusal>
+    ensures { result ≡ byte_of register amount }
 {
-    (-16 <= amount) & (amount <= 15) & (amount != 0)
-}
-
-// The amount in five bits of two's complement.
-fn five_bits(amount: i32) -> u16
-    requires { good_amount amount ≡ true }
-    ensures { (result ≡ five_bits amount) × (result < 32) }
-{
-    if amount < 0 {
-        (amount + 32) as u16
-    } else {
-        amount as u16
+    match (register, amount) {
+        (0..=7, -16..=-1 | 1..=15) => Ok(amount.rem_euclid(32) as u8 * 8 + register as u8),
+        _ => Err(Refusal::BadChange),
     }
-}
-
-// The byte that goes to SR1.
-fn change_byte(register: u32, amount: i32) -> u16
-    requires { (register ≤ 7) × (good_amount amount ≡ true) }
-    ensures { (result ≡ change_byte register amount) × (result < 256) }
-{
-    five_bits(amount) * 8 + register as u16
 }
 
 // To SR1's low byte if that is 0, else to the high byte if that is 0.
-fn enter(s: &mut [u16], byte: u16) -> Answer
-    requires { (length s.old ≡ 100) × (byte < 256) }
+#[tactic(auto, unfolding(crate::specs::Changes::entered))]
+fn enter(s: &mut Store, byte: u8) -> Result<Answer, Refusal>
     ensures { (paper result, s.new) ≡ entered s.old byte }
 {
-    let sr1 = s[97];
-    let high = byte * 256;
-    if sr1 % 256 == 0 {
-        s[97] = sr1 + byte;
-        return Answer::Done;
-    }
-    if sr1 / 256 % 256 == 0 {
-        s[97] = sr1 + high;
-        return Answer::Done;
-    }
-    Answer::Refused(Refusal::Full)
+    let bytes = match s[SR1].to_le_bytes() {
+        [0, high] => [byte, high],
+        [low, 0] => [low, byte],
+        _ => return Err(Refusal::Full),
+    };
+    s[SR1] = u16::from_le_bytes(bytes);
+    Ok(Answer::Done)
 }
 
-pub fn note_change(s: &mut [u16], register: u32, amount: i32) -> Answer
+#[tactic(auto, using(crate::proofs::Steps::change_step, crate::proofs::Steps::byte_as_held))]
+pub fn note_change(s: &mut [u16], register: u32, amount: i32) -> Result<Answer, Refusal>
     ensures { (paper result, s.new) ≡ step s.old (Change register amount) }
 {
-    if s.len() != 100 {
-        return Answer::Refused(Refusal::Store);
+    let store = s.as_mut_array::<WORDS>().ok_or(Refusal::Store)?;
+    let byte = byte_of(register, amount)?;
+    if ruling::frozen(store[SR0]) {
+        return Ok(Answer::Done);
     }
-    if 7 < register {
-        return Answer::Refused(Refusal::BadChange);
-    }
-    if !good_amount(amount) {
-        return Answer::Refused(Refusal::BadChange);
-    }
-    if ruling::frozen(s[96]) {
-        return Answer::Done;
-    }
-    enter(s, change_byte(register, amount))
+    enter(store, byte)
 }

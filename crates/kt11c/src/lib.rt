@@ -10,10 +10,10 @@ ghost use Rattle.rules.specs.Step.{step};
 pub use events::{init, instruction_start, interrupt_start, note_change};
 pub use references::reference;
 pub use registers::{read_register, write_register};
-use rules::{Answer, Event};
+use rules::{Answer, Event, Refusal};
 
 // Any event.
-pub fn apply(s: &mut [u16], e: Event) -> Answer
+pub fn apply(s: &mut [u16], e: Event) -> Result<Answer, Refusal>
     ensures { (paper result, s.new) ≡ step s.old e }
 {
     match e {

@@ -27,7 +27,7 @@ range_in : (x : Bool) (n b : ℕ) → n < 128 → cond x 0 n ≤ b → b < cond 
 range_in true n b h p q = (le-ltb n b (omega arith), omega arith)
 range_in false n b h p q = (le-ltb b n (omega arith), omega arith)
 
-pub range_small : (pdr : ℕ) → (first_block pdr ≤ end_block pdr) × (end_block pdr ≤ 128)
+range_small : (pdr : ℕ) → (first_block pdr ≤ end_block pdr) × (end_block pdr ≤ 128)
 range_small pdr = at (eqb (ed_of pdr) 0) (length_of pdr) (omega arith)
   where
     at : (x : Bool) (n : ℕ) → n < 128 → (cond x 0 n ≤ cond x (n + 1) 128) × (cond x (n + 1) 128 ≤ 128)

@@ -24,10 +24,12 @@ meeting_at l block =
     (cond (reaches l 1 block) (meeting_of l block 0 1) (meeting_of l block 0 3))
     (meeting_of l block 1 3)
 
+-- the meeting at the lowest shared block, if there is one
+abbrev pub meeting_in : List ℕ → Option Meeting
+meeting_in l = let block = first_of (shared l) 0 4096 in cond (ltb block 4096) (Some (meeting_at l block)) None
+
 unfoldable pub parting_of : List ℕ → Result (Option Meeting) Refusal
-parting_of l =
-    let block = first_of (shared l) 0 4096 in
-    cond (eqb (length l) 100) (Ok (cond (ltb block 4096) (Some (meeting_at l block)) None)) (Err Store)
+parting_of l = cond (eqb (length l) 100) (Ok (meeting_in l)) (Err Store)
 
 -- no meeting is answered exactly if the store is whole and no two modes reach a common block
 abbrev pub ApartIs : Type 0

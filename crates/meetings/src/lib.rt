@@ -9,6 +9,7 @@ ghost use Rattle.meetings.specs.Parting.{parting_of};
 ghost use Rattle.meetings.specs.Pass.{first_block, end_block, met, sighted, page_pass, mode_pass, whole_pass};
 
 use rules::{Mode, Refusal, Store};
+use ruling::{Page, SR3};
 use std::ops::Range;
 
 // A block that two modes reach, and a page of each, by its place among the 48.
@@ -74,17 +75,17 @@ impl Pass {
         }
     }
 
-    // A page, given its PAR and PDR: each of its allowed blocks, if it is resident.
+    // A page: each of its allowed blocks, if it is resident.
     #[tactic(auto, using(crate::proofs::Turns::blocks_next, crate::proofs::Turns::blocks_over), unfolding(crate::specs::Pass::page_pass, rules::specs::Keys::right_of))]
-    fn sight_page(&mut self, page: u8, par: u16, pdr: u16)
-        ensures { self.new ≡ page_pass page par pdr self.old }
+    fn sight_page(&mut self, page: Page)
+        ensures { self.new ≡ page_pass page.place page.par page.pdr self.old }
     {
-        if !ruling::right_of(pdr).read {
+        if !ruling::right_of(page.pdr).read {
             return;
         }
-        let blocks = allowed(pdr);
+        let blocks = allowed(page.pdr);
         for b in blocks.start..blocks.end {
-            self.sight(page, (par % 4096 + b) % 4096);
+            self.sight(page.place, (page.par % 4096 + b) % 4096);
         }
     }
 
@@ -94,9 +95,13 @@ impl Pass {
         ensures { self.new ≡ mode_pass store.now (mode_number mode) self.old }
     {
         let first = mode.first_page();
-        let end = first + reach::pages(mode, store[99]);
+        let end = first + reach::pages(mode, store[SR3]);
         for page in first..end {
-            self.sight_page(page as u8, store[page], store[48 + page]);
+            self.sight_page(Page {
+                place: page as u8,
+                par: store[page],
+                pdr: store[48 + page],
+            });
         }
     }
 

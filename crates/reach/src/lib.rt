@@ -9,6 +9,7 @@ ghost use Rattle.widening.specs.Reaches.{pages_of as pages_of_mode, reaches};
 ghost use Rattle.reach.specs.Reaching.{reaching_of, holds};
 
 use rules::{Mode, Refusal, Store};
+use ruling::SR3;
 
 // How many pages SR3 lets a mode use, from its first on: the eight of its I set, and the eight of its D set if SR3 enables it.
 pub fn pages(mode: Mode, sr3: u16) -> usize
@@ -53,7 +54,7 @@ fn mode_reaches(store: &Store, mode: Mode, block: u16) -> bool
     ensures { result ≡ reaches store.now (mode_number mode) block }
 {
     let first = mode.first_page();
-    let end = first + pages(mode, store[99]);
+    let end = first + pages(mode, store[SR3]);
     some_page(&store[first..end], &store[48 + first..48 + end], block)
 }
 

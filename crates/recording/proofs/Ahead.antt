@@ -1,15 +1,15 @@
 -- What is ahead of a feed at a place, by what stands there; and how one turn of the loop goes on or ends.
 use Rattle.std.proofs.Common.{Ok, Err, Some, None}
+use Rattle.std.specs.declared.option.Option.{Option}
 use mathlib.Core.Path.{◌≡◌, refl, ap, ◌∙◌}
 use mathlib.Core.Bool.{Bool, true, false, cond}
 use mathlib.Core.List.{List, []}
 use Prim.Native.Nat.{ℕ, ◌+◌, ◌-◌, ◌≤◌}
-use native.Mathlib.Nat.{add-zero}
 use native.Mathlib.Omega.{arith}
 use lib.ListN.{length}
 use lib.Seq.{sets, length-sets}
 use lib.Dec.{leb}
-use borrow.Author.Tests.{leb-true, leb-false, ne_eqb}
+use borrow.Author.Tests.{leb-true, leb-false}
 use Rattle.rules.specs.Paper.{X, number}
 use Rattle.rules.specs.Step.{step}
 use Rattle.rules.specs.declared.Event.{Event}
@@ -21,14 +21,13 @@ use Rattle.pieces.specs.declared.How.TheVariants.{Full, Spent, Stopped}
 use Rattle.pieces.proofs.SeenFrom.{every_seen}
 use Rattle.lines.specs.Lines.{Text, line_of, placed}
 use Rattle.lines.proofs.Output.{fits, unfit}
-use Rattle.lines.proofs.Lengths.{some}
 use Rattle.transcript.specs.Feeding.{Stretch, stretch, after, fitting}
 use Rattle.recording.specs.Parts.{stepped, shown, taken, ahead, ended}
 use Rattle.recording.specs.declared.Stepped.{Stepped}
 use Rattle.recording.proofs.Reached.{Reached, write, finish}
 
 abbrev Outcome : Type 0
-Outcome = ℕ × List ℕ × List ℕ
+Outcome = Option ℕ × List ℕ × List ℕ
 
 -- the bytes inside the limit, whether there are others, and whether they are the last
 module _ (beyond last : Bool) (r : List ℕ) (at : ℕ) (l : List ℕ) (room : ℕ) where
@@ -48,10 +47,10 @@ module _ (beyond last : Bool) (r : List ℕ) (at : ℕ) (l : List ℕ) (room : �
 
 module _ (whole : Stretch) (out₀ out : List ℕ) (n : ℕ) where
   -- a text that fits what is left, put at its place
-  put-fits : (t : Text) → n ≤ length out → leb (length t) (length out - n) ≡ true → placed out n t ≡ (length t, sets out n t)
+  put-fits : (t : Text) → n ≤ length out → leb (length t) (length out - n) ≡ true → placed out n t ≡ (Some (length t), sets out n t)
   put-fits t w h = fits out n t (omega (arith, leb-true (length t) (length out - n) h))
 
-  put-unfit : (t : Text) → n ≤ length out → leb (length t) (length out - n) ≡ false → placed out n t ≡ (0, out)
+  put-unfit : (t : Text) → n ≤ length out → leb (length t) (length out - n) ≡ false → placed out n t ≡ (None, out)
   put-unfit t w h = unfit out n t (omega (arith, leb-false (length t) (length out - n) h))
 
   -- the last line, by whether it fits
@@ -62,9 +61,9 @@ module _ (whole : Stretch) (out₀ out : List ℕ) (n : ℕ) where
   stopping true k at l h s =
       let line = line_of (X k) in
       let w : n + length line ≤ length out = omega (arith, leb-true (length line) (length out - n) h, s.within) in
-      rw (put-fits line s.within h, ne_eqb (length line) 0 (λ z. omega (arith, some (X k))))
+      rw (put-fits line s.within h)
       (finish whole out₀ (sets out n line) (n + length line) at Stopped l (write out n line w whole out₀ (stretch [] at Stopped l) s))
-  stopping false k at l h s = rw (put-unfit (line_of (X k)) s.within h, add-zero) (finish whole out₀ out n at Full l s)
+  stopping false k at l h s = rw (put-unfit (line_of (X k)) s.within h) (finish whole out₀ out n at Full l s)
 
   pub stops : (x : Refusal) (at : ℕ) (l : List ℕ) → let line = line_of (X (number x)) in
       Reached whole out₀ out n (fitting (length out - n) (refusal x) at l)
@@ -96,7 +95,7 @@ module _ (whole : Stretch) (out₀ out : List ℕ) (n : ℕ) where
 
     -- how many bytes, the store and the output, by whether the line fits
     outcome : Bool → Outcome
-    outcome b = cond b (length (line_of (step l v).0), (step l v).1, sets out n (line_of (step l v).0)) (0, l, out)
+    outcome b = cond b (Some (length (line_of (step l v).0)), (step l v).1, sets out n (line_of (step l v).0)) (None, l, out)
 
     fit : Bool
     fit = leb (length (line_of (step l v).0)) (length out - n)
@@ -106,25 +105,27 @@ module _ (whole : Stretch) (out₀ out : List ℕ) (n : ℕ) where
     taken_is true h = rw (h, put-fits (line_of (step l v).0) s.within h)
     taken_is false h = rw h
 
-    taking : (b : Bool) (x : Outcome) → fit ≡ b → x ≡ outcome b → (x.0 ≡ 0 → ⊥)
-        → Reached whole out₀ x.2 (n + x.0) (ahead beyond last r c.at x.1 (length x.2 - (n + x.0)))
+    taking : (b : Bool) (x : Outcome) (k : ℕ) → fit ≡ b → x ≡ outcome b → x.0 ≡ Some k
+        → Reached whole out₀ x.2 (n + k) (ahead beyond last r c.at x.1 (length x.2 - (n + k)))
     unfolding outcome fit
-    taking true x h q z = rw q (goes_on h)
-    taking false x h q z = absurd (z (ap (λ (y : Outcome). y.0) q))
+    taking true x k h q z =
+        let m : length (line_of (step l v).0) ≡ k = let y = ap (λ (y : Outcome). y.0) q in cc in
+        rw (q, ← m) (goes_on h)
+    taking false x k h q z = let y = ap (λ (y : Outcome). y.0) q in cc
 
-    leaving : (b : Bool) (x : Outcome) → fit ≡ b → x ≡ outcome b → x.0 ≡ 0
+    leaving : (b : Bool) (x : Outcome) → fit ≡ b → x ≡ outcome b → x.0 ≡ None
         → (stepped at Full n, x.1, x.2) ≡ shown whole out₀
     unfolding outcome fit
-    leaving true x h q z = absurd (omega (arith, ap (λ (y : Outcome). y.0) q, some (step l v).0))
+    leaving true x h q z = let y = ap (λ (y : Outcome). y.0) q in cc
     leaving false x h q z = rw q (waits h)
 
-    pub takes : (k : ℕ) (l' out' : List ℕ) → (k, l', out') ≡ taken l v out n → (k ≡ 0 → ⊥)
+    pub takes : (put : Option ℕ) (k : ℕ) (l' out' : List ℕ) → (put, l', out') ≡ taken l v out n → put ≡ Some k
         → Reached whole out₀ out' (n + k) (ahead beyond last r c.at l' (length out' - (n + k)))
-    takes k l' out' q z = taking fit (k, l', out') refl (q ∙ taken_is fit refl) z
+    takes put k l' out' q z = taking fit (put, l', out') k refl (q ∙ taken_is fit refl) z
 
-    pub leaves : (k : ℕ) (l' out' : List ℕ) → (k, l', out') ≡ taken l v out n → k ≡ 0
+    pub leaves : (put : Option ℕ) (l' out' : List ℕ) → (put, l', out') ≡ taken l v out n → put ≡ None
         → (stepped at Full n, l', out') ≡ shown whole out₀
-    leaves k l' out' q z = leaving fit (k, l', out') refl (q ∙ taken_is fit refl) z
+    leaves put l' out' q z = leaving fit (put, l', out') refl (q ∙ taken_is fit refl) z
 
   -- what the code finds at a place: no record, or a refusal
   module _ (beyond last : Bool) (r : List ℕ) (at : ℕ) (l : List ℕ) (s : Reached whole out₀ out n (ahead beyond last r at l (length out - n))) where

@@ -1,3 +1,4 @@
 pub mod Reached
 pub mod Ahead
+pub mod Taking
 pub mod Pieces

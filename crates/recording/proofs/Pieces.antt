@@ -1,25 +1,22 @@
 -- A feed, by the tests that come before the records: over, 1, or the records inside the limit.
 use mathlib.Core.Path.{◌≡◌, ap}
 use mathlib.Core.Bool.{Bool, true, false}
-use mathlib.Core.List.{List, ◌++◌}
+use mathlib.Core.List.{List}
 use Prim.Native.Nat.{ℕ}
-use lib.ListN.{length, take}
-use borrow.Author.Tests.{eq-eqb, ne_eqb}
+use lib.ListN.{length}
+use borrow.Author.Tests.{ne_eqb}
 use Rattle.rules.specs.Paper.{X}
 use Rattle.rules.specs.declared.Refusal.TheVariants.{Store}
 use Rattle.records.specs.Recordings.{refusal}
 use Rattle.lines.specs.Lines.{line_of}
 use Rattle.pieces.specs.Begun.{to_tell, landed}
-use Rattle.pieces.specs.Windows.{window_of}
 use Rattle.pieces.specs.declared.Begun.{Begun}
 use Rattle.pieces.specs.declared.Reached.{Reached as Landing}
-use Rattle.pieces.specs.declared.Window.{Window}
 use Rattle.pieces.specs.declared.How.TheVariants.{Spent}
-use Rattle.pieces.proofs.Within.{lent}
 use Rattle.pieces.proofs.Tells.{tells_none, or_over, or_going}
 use Rattle.transcript.specs.Feeding.{fitting, feed_of, fed}
 use Rattle.transcript.specs.declared.Fed.{Fed}
-use Rattle.recording.specs.Parts.{shown, ahead, going, ended}
+use Rattle.recording.specs.Parts.{shown, going, ended}
 use Rattle.recording.specs.declared.Stepped.{Stepped}
 use Rattle.recording.proofs.Reached.{begin}
 use Rattle.recording.proofs.Ahead.{stops}
@@ -31,12 +28,6 @@ module _ (l : List ℕ) (b : Begun) (piece : List ℕ) (last : Bool) (out : List
   when_store h q out' u =
       rw (ne_eqb (length l) 100 h)
       (stops (fitting (length out) (refusal Store) 0 l) out out 0 Store 0 l (begin (λ room. fitting room (refusal Store) 0 l) out) q out' u)
-
-  pub when_records : length l ≡ 100 → (w : Window) → w ≡ window_of b piece
-      → shown (ahead w.beyond last (take w.front b.held.bytes ++ take w.back piece) 0 l (length out)) out
-      ≡ shown (going b piece last l (length out)) out
-  unfolding going window_of
-  when_records h w e = rw (eq-eqb (length l) 100 h, e, lent b piece)
 
   pub when_over : b.over ≡ true → (q : Landing) → q ≡ landed b piece true 0 Spent
       → (record { reached = q; written = 0 }, l, out) ≡ fed l b piece last out

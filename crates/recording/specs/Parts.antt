@@ -1,5 +1,6 @@
 -- What the parts of a feed do: one event, the last line, and the records from a place on.
-use Rattle.std.specs.Prelude.{ℕ, ◌+◌, ◌-◌, Bool, cond, List, ◌++◌, length, drop, leb, eqb}
+use Rattle.std.specs.Prelude.{ℕ, ◌+◌, ◌-◌, Bool, cond, List, ◌++◌, length, drop, leb, None, Some}
+use Rattle.std.specs.declared.option.Option.{Option}
 use Rattle.rules.specs.Step.{step}
 use Rattle.rules.specs.declared.Event.{Event}
 use Rattle.lines.specs.Lines.{Text, line_of, placed}
@@ -27,15 +28,20 @@ unfoldable pub going : Begun → List ℕ → Bool → List ℕ → ℕ → Stre
 going b piece last l room = fitting room (judged b piece last l) 0 l
 
 -- an event and its line at a place of the output, where the line fits: how many bytes are written, the store and the output afterwards
-unfoldable pub taken : List ℕ → Event → List ℕ → ℕ → ℕ × List ℕ × List ℕ
+unfoldable pub taken : List ℕ → Event → List ℕ → ℕ → Option ℕ × List ℕ × List ℕ
 taken l e out written =
     let s = step l e in
     let line = line_of s.0 in
     let put = placed out written line in
-    cond (leb (length line) (length out - written)) (put.0, s.1, put.1) (0, l, out)
+    cond (leb (length line) (length out - written)) (put.0, s.1, put.1) (None, l, out)
 
--- a feed's last line at a place of the output: stopped, if the line fits
+-- a feed's last line, by how many bytes of it were written: stopped, if the line fits
+abbrev pub stopped_by : ℕ → ℕ → Option ℕ → Stepped
+stopped_by at written None = stepped at Full written
+stopped_by at written (Some n) = stepped at Stopped (written + n)
+
+-- at a place of the output
 unfoldable pub ended : List ℕ → ℕ → ℕ → Text → Stepped × List ℕ
 ended out at written line =
     let put = placed out written line in
-    (stepped at (cond (eqb put.0 0) Full Stopped) (written + put.0), put.1)
+    (stopped_by at written put.0, put.1)

@@ -3,16 +3,16 @@
 
 #![tactic(auto)]
 
-ghost use Rattle.std.specs.Prelude.{◌≡◌, ◌≤◌, ◌++◌, length, ltb, eqb, cond};
+ghost use Rattle.std.specs.Prelude.{◌≡◌, ◌≤◌, ◌++◌, length};
 ghost use Rattle.rules.specs.Paper.{X, number};
-ghost use Rattle.lines.specs.Lines.{line_of, longest};
+ghost use Rattle.rules.specs.Step.{step};
+ghost use Rattle.lines.specs.Lines.{line_of, placed};
 ghost use Rattle.transcript.specs.Feeding.{fed};
 ghost use Rattle.recording.specs.Parts.{taken, ended, ahead, going, shown};
 
 use lines::LONGEST;
-use pieces::{Begun, How};
-use records::Found;
-use rules::{Answer, Event, Refusal};
+use pieces::{Begun, How, Seen};
+use rules::{Event, Refusal, Store, WORDS};
 use transcript::Fed;
 
 // How far a feed went through the records: the place, how it ended there, and how many bytes of the output were written.
@@ -23,109 +23,84 @@ struct Stepped {
     written: usize,
 }
 
-const WORDS: usize = 100;
-
-// the words of a store, into another
-fn copy(from: &[u16], to: &mut [u16])
-    requires { (length from.now ≡ 100) × (length to.old ≡ 100) }
-    ensures { to.new ≡ from.now }
+// an event, and its line where the line fits: how many bytes were written
+fn put_event(s: &mut Store, e: Event, out: &mut [u8], written: usize) -> Option<usize>
+    ensures { (s.new ≡ (step s.old e).1) × ((result, out.new) ≡ placed out.old written (line_of (step s.old e).0)) }
 {
-    let mut i = 0;
-    while i < 100 {
-        to[i] = from[i];
-        i += 1;
-    }
+    let answer = kt11c::apply(s, e);
+    lines::put(out, written, answer)
 }
 
-// the store is kept aside where there is not room for any line
-fn keep(s: &[u16], spare: &mut [u16], room: usize)
-    requires { (length s.now ≡ 100) × (length spare.old ≡ 100) }
-    ensures { spare.new ≡ cond (ltb room longest) s.now spare.old }
-{
-    if room < LONGEST {
-        copy(s, spare);
-    }
-}
-
-// and given back where nothing was written
-fn give_back(s: &mut [u16], spare: &[u16], written: usize)
-    requires { (length s.old ≡ 100) × (length spare.now ≡ 100) }
-    ensures { s.new ≡ cond (eqb written 0) spare.now s.old }
-{
-    if written == 0 {
-        copy(spare, s);
-    }
-}
-
-// an event and its line, where the line fits: how many bytes were written, 0 where it does not fit and nothing happens
-fn take_event(s: &mut [u16], e: Event, out: &mut [u8], written: usize, spare: &mut [u16]) -> usize
-    requires { (length s.old ≡ 100) × ((length spare.old ≡ 100) × (written ≤ length out.old)) }
+// the same, but nothing happens where the line does not fit: the store kept aside is given back
+fn put_or_give_back(s: &mut Store, e: Event, out: &mut [u8], written: usize) -> Option<usize>
+    requires { written ≤ length out.old }
     ensures { (result, s.new, out.new) ≡ taken s.old e out.old written }
 {
-    keep(s, spare, out.len() - written);
-    let answer = kt11c::apply(s, e);
-    let n = lines::put(out, written, answer);
-    give_back(s, spare, n);
-    n
+    let kept = *s;
+    let put = put_event(s, e, out, written);
+    if put.is_none() {
+        *s = kept;
+    }
+    put
+}
+
+// the same, with no copy of the store where there is room for any line
+fn take_event(s: &mut Store, e: Event, out: &mut [u8], written: usize) -> Option<usize>
+    requires { written ≤ length out.old }
+    ensures { (result, s.new, out.new) ≡ taken s.old e out.old written }
+{
+    if out.len() - written < LONGEST {
+        return put_or_give_back(s, e, out, written);
+    }
+    put_event(s, e, out, written)
 }
 
 // a refusal that stops the replay: its line, where it fits
+#[tactic(auto, unfolding(crate::specs::Parts::ended))]
 fn stop(out: &mut [u8], at: usize, written: usize, refusal: Refusal) -> Stepped
     requires { written ≤ length out.old }
     ensures { (result, out.new) ≡ ended out.old at written (line_of (X (number refusal))) }
 {
-    let put = lines::put(out, written, Answer::Refused(refusal));
-    if put == 0 {
-        return Stepped {
+    match lines::put(out, written, Err(refusal)) {
+        None => Stepped {
             at,
             how: How::Full,
             written,
-        };
-    }
-    Stepped {
-        at,
-        how: How::Stopped,
-        written: written + put,
+        },
+        Some(n) => Stepped {
+            at,
+            how: How::Stopped,
+            written: written + n,
+        },
     }
 }
 
-// record by record, of the bytes held and those of the piece, while the next line fits
-fn replay_records(
-    s: &mut [u16],
-    front: &[u8],
-    back: &[u8],
-    beyond: bool,
-    last: bool,
-    out: &mut [u8],
-) -> Stepped
-    requires { length s.old ≡ 100 }
-    ensures { (result, s.new, out.new) ≡ shown (ahead beyond last (front.now ++ back.now) 0 s.old (length out.old)) out.old }
+// record by record, of the bytes inside the limit, while the next line fits
+fn replay_records(s: &mut Store, seen: Seen<'_>, out: &mut [u8]) -> Stepped
+    ensures { (result, s.new, out.new) ≡ shown (ahead seen.entry.beyond seen.entry.last (seen.entry.front.now ++ seen.entry.back.now) 0 s.old (length out.old)) out.old }
 {
-    let mut spare = [0u16; 100];
     let mut at = 0;
     let mut written = 0;
     loop {
-        let found = pieces::read(front, back, beyond, last, at);
-        match found {
-            Found::End => {
+        match seen.read(at) {
+            Ok(None) => {
                 return Stepped {
                     at,
                     how: How::Spent,
                     written,
                 };
             }
-            Found::Refused(refusal) => {
+            Err(refusal) => {
                 return stop(out, at, written, refusal);
             }
-            Found::Whole(event, next) => {
-                let n = take_event(s, event, out, written, &mut spare);
-                if n == 0 {
+            Ok(Some((event, next))) => {
+                let Some(n) = take_event(s, event, out, written) else {
                     return Stepped {
                         at,
                         how: How::Full,
                         written,
                     };
-                }
+                };
                 written += n;
                 at = next.at;
             }
@@ -134,22 +109,19 @@ fn replay_records(
 }
 
 // the records of a piece, where the run is not over: 1 is tested first
-fn replay_piece(s: &mut [u16], begun: Begun, piece: &[u8], last: bool, out: &mut [u8]) -> Stepped
-    ensures { (result, s.new, out.new) ≡ shown (going begun piece.now last s.old (length out.old)) out.old }
+#[tactic(auto, unfolding(crate::specs::Parts::going))]
+fn replay_piece(s: &mut [u16], begun: &Begun, piece: &[u8], last: bool, out: &mut [u8]) -> Stepped
+    ensures { (result, s.new, out.new) ≡ shown (going begun.now piece.now last s.old (length out.old)) out.old }
 {
-    if s.len() != WORDS {
+    let Some(store) = s.as_mut_array::<WORDS>() else {
         return stop(out, 0, 0, Refusal::Store);
-    }
-    let window = pieces::inside(begun, piece);
-    let n = window.front;
-    let m = window.back;
-    let held = begun.held;
-    let bytes = held.bytes;
-    replay_records(s, &bytes[..n], &piece[..m], window.beyond, last, out)
+    };
+    replay_records(store, pieces::inside(begun, piece, last), out)
 }
 
 // One feed of a replay: a piece of the recording after the bytes of a begun record, and whether it is the last. As many whole lines
 // as the output holds are written; what is not taken of the piece is for the next feed.
+#[tactic(auto, using(crate::proofs::Pieces::when_over))]
 pub fn feed(s: &mut [u16], begun: Begun, piece: &[u8], last: bool, out: &mut [u8]) -> Fed
     ensures { (result, s.new, out.new) ≡ fed s.old begun piece.now last out.old }
 {
@@ -159,10 +131,9 @@ pub fn feed(s: &mut [u16], begun: Begun, piece: &[u8], last: bool, out: &mut [u8
             written: 0,
         };
     }
-    let step = replay_piece(s, begun, piece, last, out);
-    let how = step.how;
+    let step = replay_piece(s, &begun, piece, last, out);
     Fed {
-        reached: pieces::land(begun, piece, last, step.at, how),
+        reached: pieces::land(begun, piece, last, step.at, step.how),
         written: step.written,
     }
 }

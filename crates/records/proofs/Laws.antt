@@ -1,13 +1,13 @@
 -- What stands at a place, by the tests that lead there; and that a whole record ends past its start and within the recording.
 use Rattle.std.proofs.Common.{Ok, Err, Some, None}
-use mathlib.Core.Path.{◌≡◌, refl, sym, ap}
-use mathlib.Core.Bool.{Bool, true, false, cond}
+use mathlib.Core.Path.{◌≡◌, refl, sym, ap, ◌∙◌}
+use mathlib.Core.Bool.{Bool, true, false}
 use mathlib.Core.List.{List}
 use Prim.Native.Nat.{ℕ, ◌+◌, ◌<◌, ◌≤◌}
 use native.Mathlib.Omega.{arith}
 use lib.ListN.{length}
 use lib.Dec.{ltb, leb}
-use borrow.Author.Tests.{lt-ltb, le-ltb, le-leb, lt-leb, leb-true, ltb-false}
+use borrow.Author.Tests.{lt-ltb, le-ltb, le-leb, lt-leb, leb-true, leb-false, ltb-true, ltb-false}
 use Rattle.rules.specs.declared.Event.{Event}
 use Rattle.rules.specs.declared.Refusal.TheVariants.{Kind, Cut}
 use Rattle.records.specs.Bytes.{byte_at}
@@ -15,14 +15,8 @@ use Rattle.records.specs.Kinds.{known, body_of}
 use Rattle.records.specs.Records.{Found, event_of, record_at}
 use Rattle.records.specs.declared.Cursor.{Cursor}
 
-pub known_zero : (k : ℕ) → k ≡ 0 → known k ≡ false
-known_zero k e = rw e
-
 pub known-above : (k : ℕ) → (k ≡ 0 → ⊥) → 7 < k → known k ≡ false
 known-above k n h = rw (lt-ltb 0 k (omega arith), lt-leb k 7 h)
-
-pub known-within : (k : ℕ) → (k ≡ 0 → ⊥) → k ≤ 7 → known k ≡ true
-known-within k n h = rw (lt-ltb 0 k (omega arith), le-leb k 7 h)
 
 module _ (s : List ℕ) (at : ℕ) where
   pub at-end : length s ≤ at → record_at s at ≡ Ok None
@@ -42,30 +36,30 @@ module _ (s : List ℕ) (at : ℕ) where
   unfolding record_at
   at-whole h k l = rw (lt-ltb at (length s) h, k, le-leb _ _ l)
 
--- the tests of `record_at` as bools: only the last case is a whole record
-only-whole : (a k b : Bool) (e e' : Event) (c c' : Cursor) → cond a (cond k (cond {A = Found} b (Ok (Some (e, c))) (Err Cut)) (Err Kind)) (Ok None) ≡ Ok (Some (e', c'))
-    → (a ≡ true) × (k ≡ true) × (b ≡ true) × (e ≡ e') × (c ≡ c')
-only-whole true true true e e' c c' h =
-    let p : ◌≡◌ {A = Event × Cursor} (e, c) (e', c') = cc in
-    (refl, refl, refl, ap (λ (x : Event × Cursor). x.0) p, ap (λ (x : Event × Cursor). x.1) p)
-only-whole true true false e e' c c' h = cc
-only-whole true false b e e' c c' h = cc
-only-whole false k b e e' c c' h = cc
+-- what stands at a place, with the tests that tell it
+pub data Stands (s : List ℕ) (at : ℕ) : Type 0 where
+  none : length s ≤ at → Stands s at
+  unknown : at < length s → known (byte_at s at) ≡ false → Stands s at
+  cut : at < length s → known (byte_at s at) ≡ true → length s < at + 1 + body_of (byte_at s at) → Stands s at
+  whole : at < length s → known (byte_at s at) ≡ true → at + 1 + body_of (byte_at s at) ≤ length s → Stands s at
 
-not_end : (k b : Bool) (e : Event) (c : Cursor) → cond k (cond {A = Found} b (Ok (Some (e, c))) (Err Cut)) (Err Kind) ≡ Ok None → ⊥
-not_end true true e c h = cc
-not_end true false e c h = cc
-not_end false b e c h = cc
+pub stands : (s : List ℕ) (at : ℕ) → Stands s at
+stands s at = by (ltb at (length s)) (known (byte_at s at)) (leb (at + 1 + body_of (byte_at s at)) (length s)) refl refl refl
+  where
+    by : (a k b : Bool) → ltb at (length s) ≡ a → known (byte_at s at) ≡ k → leb (at + 1 + body_of (byte_at s at)) (length s) ≡ b → Stands s at
+    by false k b ea ek eb = none (ltb-false at (length s) ea)
+    by true false b ea ek eb = unknown (ltb-true at (length s) ea) ek
+    by true true false ea ek eb = cut (ltb-true at (length s) ea) ek (leb-false _ (length s) eb)
+    by true true true ea ek eb = whole (ltb-true at (length s) ea) ek (leb-true _ (length s) eb)
 
 pub end-tells : (s : List ℕ) (at : ℕ) → record_at s at ≡ Ok None → length s ≤ at
-unfolding record_at
-end-tells s at h = by (ltb at (length s)) refl h
+end-tells s at h = of (stands s at)
   where
-    by : (x : Bool) → ltb at (length s) ≡ x
-        → cond x (cond (known (byte_at s at)) (cond {A = Found} (leb (at + 1 + body_of (byte_at s at)) (length s)) (Ok (Some (event_of (byte_at s at) s (at + 1), record { at = at + 1 + body_of (byte_at s at) }))) (Err Cut)) (Err Kind)) (Ok None) ≡ Ok None
-        → length s ≤ at
-    by true e q = absurd (not_end (known (byte_at s at)) (leb (at + 1 + body_of (byte_at s at)) (length s)) _ _ q)
-    by false e q = ltb-false at (length s) e
+    of : Stands s at → length s ≤ at
+    of (none a) = a
+    of (unknown a k) = let e = at-unknown s at a k in cc
+    of (cut a k l) = let e = at_cut s at a k l in cc
+    of (whole a k w) = let e = at-whole s at a k w in cc
 
 -- what a whole record at a place tells
 pub record WholeAt (s : List ℕ) (at : ℕ) (e : Event) (next : ℕ) : Type 0 where
@@ -75,17 +69,18 @@ pub record WholeAt (s : List ℕ) (at : ℕ) (e : Event) (next : ℕ) : Type 0 w
   pub read : e ≡ event_of (byte_at s at) s (at + 1)
 
 pub whole_tells : (s : List ℕ) (at : ℕ) (e : Event) (c : Cursor) → record_at s at ≡ Ok (Some (e, c)) → WholeAt s at e c.at
-unfolding record_at
-whole_tells s at e c h =
-    let next = at + 1 + body_of (byte_at s at) in
-    let q = only-whole (ltb at (length s)) (known (byte_at s at)) (leb next (length s)) _ e _ c h in
-    let n : c.at ≡ next = sym (ap (λ (x : Cursor). x.at) q.4) in
-    record {
-      kind = q.1;
-      place = n;
-      ends = rw n (leb-true next (length s) q.2);
-      read = sym q.3;
-    }
+whole_tells s at e c h = of (stands s at)
+  where
+    of : Stands s at → WholeAt s at e c.at
+    of (none a) = let e = at-end s at a in cc
+    of (unknown a k) = let e = at-unknown s at a k in cc
+    of (cut a k l) = let e = at_cut s at a k l in cc
+    of (whole a k w) =
+        let next = at + 1 + body_of (byte_at s at) in
+        let same : ◌≡◌ {A = Found} (Ok (Some (e, c))) (Ok (Some (event_of (byte_at s at) s (at + 1), record { at = next }))) = sym h ∙ at-whole s at a k w in
+        let p : ◌≡◌ {A = Event × Cursor} (e, c) (event_of (byte_at s at) s (at + 1), record { at = next }) = cc in
+        let n : c.at ≡ next = ap (λ (x : Event × Cursor). x.1.at) p in
+        record { kind = k; place = n; ends = rw n w; read = ap (λ (x : Event × Cursor). x.0) p }
 
 pub advances : (s : List ℕ) (at : ℕ) (e : Event) (c : Cursor) → record_at s at ≡ Ok (Some (e, c)) → (at < c.at) × (c.at ≤ length s)
 advances s at e c h = let k = whole_tells s at e c h in (omega (arith, k.place), k.ends)

@@ -1,33 +1,17 @@
 -- A record read in a part of a recording: in what is left of it from a place on, and in the front of it. By what stands there.
 use mathlib.Core.Path.{◌≡◌, refl, sym, ◌∙◌}
-use mathlib.Core.Bool.{Bool, true, false, false≢true}
+use mathlib.Core.Bool.{true, false, false≢true}
 use mathlib.Core.List.{List, ◌++◌}
 use Prim.Native.Nat.{ℕ, zero, suc, ◌+◌, ◌-◌, ◌<◌, ◌≤◌}
 use native.Mathlib.Omega.{arith}
 use lib.ListN.{length, drop, get_or, length-append, get_or-append}
 use lib.Seq.{get_or-drop}
-use lib.Dec.{ltb, leb, lit≤}
-use borrow.Author.Tests.{ltb-true, ltb-false, leb-true, leb-false}
+use lib.Dec.{lit≤}
 use Rattle.records.specs.Bytes.{byte_at, low_first}
 use Rattle.records.specs.Kinds.{bodies, known, body_of}
 use Rattle.records.specs.Records.{event_of, record_at}
 use Rattle.records.proofs.Laws.{known-above, at-unknown, at-whole}
-
--- what stands at a place, with the tests that tell it
-pub data Stands (s : List ℕ) (at : ℕ) : Type 0 where
-  none : length s ≤ at → Stands s at
-  unknown : at < length s → known (byte_at s at) ≡ false → Stands s at
-  cut : at < length s → known (byte_at s at) ≡ true → length s < at + 1 + body_of (byte_at s at) → Stands s at
-  whole : at < length s → known (byte_at s at) ≡ true → at + 1 + body_of (byte_at s at) ≤ length s → Stands s at
-
-pub stands : (s : List ℕ) (at : ℕ) → Stands s at
-stands s at = by (ltb at (length s)) (known (byte_at s at)) (leb (at + 1 + body_of (byte_at s at)) (length s)) refl refl refl
-  where
-    by : (a k b : Bool) → ltb at (length s) ≡ a → known (byte_at s at) ≡ k → leb (at + 1 + body_of (byte_at s at)) (length s) ≡ b → Stands s at
-    by false k b ea ek eb = none (ltb-false at (length s) ea)
-    by true false b ea ek eb = unknown (ltb-true at (length s) ea) ek
-    by true true false ea ek eb = cut (ltb-true at (length s) ea) ek (leb-false _ (length s) eb)
-    by true true true ea ek eb = whole (ltb-true at (length s) ea) ek (leb-true _ (length s) eb)
+pub use Rattle.records.proofs.Laws.{Stands, none, unknown, cut, whole, stands}
 
 -- no body is longer than a reference's
 pub body_most : (kind : ℕ) → body_of kind ≤ 6

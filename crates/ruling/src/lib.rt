@@ -14,7 +14,7 @@ pub use decode::{SR0, SR1, SR2, SR3};
 use rules::{Answer, Right};
 
 // A page as a reference finds it: its place among the 48, and its two words.
-#[derive(Clone, Copy)]
+#[derive(Clone, Copy, Debug, PartialEq, Eq)]
 pub struct Page {
     pub place: u8,
     pub par: u16,
@@ -22,7 +22,7 @@ pub struct Page {
 }
 
 // The answer, and the page's PDR and SR0 afterwards.
-#[derive(Clone, Copy)]
+#[derive(Clone, Copy, Debug, PartialEq, Eq)]
 pub struct Ruling {
     pub answer: Answer,
     pub pdr: u16,
@@ -116,7 +116,7 @@ pub fn sr0_after(sr0: u16, flags: u16, loaded: u16) -> u16
 }
 
 // rule 4: what a reference is aborted by
-#[derive(Clone, Copy)]
+#[derive(Clone, Copy, Debug, PartialEq, Eq)]
 pub struct Flags {
     pub nonresident: bool,
     pub length: bool,

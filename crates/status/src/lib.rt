@@ -6,7 +6,7 @@
 ghost use Rattle.std.specs.Prelude.{◌≡◌};
 ghost use Rattle.status.specs.Starts.{started_of};
 
-#[derive(Clone, Copy)]
+#[derive(Clone, Copy, Debug, PartialEq, Eq)]
 pub struct Status {
     pub sr0: u16,
     pub sr1: u16,
@@ -15,6 +15,7 @@ pub struct Status {
 }
 
 // Unless frozen, SR1 becomes 0 and SR2 the number.
+#[tactic(auto, unfolding(crate::specs::Starts::started_of))]
 pub fn started(t: Status, number: u16) -> Status
     ensures { result ≡ started_of t number }
 {
@@ -22,25 +23,21 @@ pub fn started(t: Status, number: u16) -> Status
         return t;
     }
     Status {
-        sr0: t.sr0,
         sr1: 0,
         sr2: number,
-        sr3: t.sr3,
+        ..t
     }
 }
 
+// Two functions over one: they are two events of 01.
 pub fn instruction_start(t: &mut Status, va: u16)
     ensures { t.new ≡ started_of t.old va }
 {
-    let old = *t;
-    let new = started(old, va);
-    *t = new;
+    *t = started(*t, va);
 }
 
 pub fn interrupt_start(t: &mut Status, vector: u16)
     ensures { t.new ≡ started_of t.old vector }
 {
-    let old = *t;
-    let new = started(old, vector);
-    *t = new;
+    *t = started(*t, vector);
 }

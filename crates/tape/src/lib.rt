@@ -4,34 +4,26 @@
 
 #![tactic(auto)]
 
-ghost use Rattle.std.specs.Prelude.{◌≡◌, ◌%◌, min};
-ghost use Rattle.rules.specs.Words.{bit};
+ghost use Rattle.std.specs.Prelude.{◌≡◌, ◌%◌, ◌<◌, get_or};
 ghost use Rattle.transcript.specs.Feeding.{fed};
 ghost use Rattle.tape.specs.Tapes.{begun_by, words_of, counted, wholly};
 
 use pieces::{Begun, Held, Reached};
-
-fn byte(word: u64) -> u8
-    ensures { result ≡ word % 256 }
-{
-    (word % 256) as u8
-}
+use std::array;
 
 // the state that the words hold
+#[tactic(auto, unfolding(crate::specs::Tapes::begun_by))]
 fn begun(words: &[u64; 11]) -> Begun
     ensures { result ≡ begun_by words.now }
 {
     Begun {
         held: Held {
-            bytes: [
-                byte(words[0]),
-                byte(words[1]),
-                byte(words[2]),
-                byte(words[3]),
-                byte(words[4]),
-                byte(words[5]),
-                byte(words[6]),
-            ],
+            bytes: array::from_fn(
+                |i|
+                    requires { i < 7 }
+                    ensures { result ≡ get_or words.entry.now i 0 % 256 }
+                    { (words[i] % 256) as u8 },
+            ),
             count: words[7] as usize,
         },
         at: words[8] as usize,
@@ -39,35 +31,30 @@ fn begun(words: &[u64; 11]) -> Begun
     }
 }
 
-fn flag(over: bool) -> u64
-    ensures { result ≡ bit over }
-{
-    if over { 1 } else { 0 }
-}
-
 // how far a piece was taken, as words
+#[tactic(auto, unfolding(crate::specs::Tapes::words_of))]
 fn words(reached: Reached) -> [u64; 11]
     ensures { result ≡ words_of reached }
 {
     let begun = reached.begun;
-    let held = begun.held;
-    let bytes = held.bytes;
+    let [a, b, c, d, e, f, g] = begun.held.bytes.map(u64::from);
     [
-        bytes[0] as u64,
-        bytes[1] as u64,
-        bytes[2] as u64,
-        bytes[3] as u64,
-        bytes[4] as u64,
-        bytes[5] as u64,
-        bytes[6] as u64,
-        held.count as u64,
+        a,
+        b,
+        c,
+        d,
+        e,
+        f,
+        g,
+        begun.held.count as u64,
         begun.at as u64,
-        flag(begun.over),
+        u64::from(begun.over),
         reached.taken as u64,
     ]
 }
 
 // Feeds a piece: the lines that fit are written, and the state tells how far it came; how many bytes were written.
+#[tactic(auto, unfolding(crate::specs::Tapes::counted))]
 pub fn kt11c_feed(
     store: &mut [u16],
     state: &mut [u64; 11],
@@ -77,31 +64,21 @@ pub fn kt11c_feed(
 ) -> usize
     ensures { (result, store.new, state.new, out.new) ≡ counted (fed store.old (begun_by state.old) piece.now last out.old) }
 {
-    let from = begun(state);
-    let step = recording::feed(store, from, piece, last, out);
-    let reached = step.reached;
-    *state = words(reached);
+    let step = recording::feed(store, begun(state), piece, last, out);
+    *state = words(step.reached);
     step.written
 }
 
-fn least(a: usize, b: usize) -> usize
-    ensures { result ≡ min a b }
-{
-    if a < b { a } else { b }
-}
-
 // A whole recording in one call, from the record at a place on, while the next line fits; how many bytes were written.
+#[tactic(auto, using(crate::proofs::Places::from_place), unfolding(crate::specs::Tapes::wholly))]
 pub fn kt11c_replay(store: &mut [u16], recording: &[u8], at: usize, out: &mut [u8]) -> usize
     ensures { (result, store.new, out.new) ≡ wholly store.old recording.now at out.old }
 {
-    let none = pieces::fresh();
-    let held = none.held;
     let from = Begun {
-        held,
         at,
-        over: false,
+        ..pieces::fresh()
     };
-    let start = least(at, recording.len());
+    let start = at.min(recording.len());
     let step = recording::feed(store, from, &recording[start..], true, out);
     step.written
 }

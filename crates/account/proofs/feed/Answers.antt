@@ -7,5 +7,5 @@ returns-then-begun c = when_over _ _ _ _ c.if-begun.true _ c.land-reached.ensure
 
 pub returns : goal.returns
 returns c =
-    when_going _ _ _ _ c.if-begun.false _ _ c.survey_piece-course.ensures _ c.how_by.ensures _
+    when_going _ _ _ _ c.if-begun.false _ _ c.survey_piece-course.ensures _ c.how.ensures _
     c.land-reached-2.ensures

@@ -7,11 +7,13 @@ use Rattle.pieces.specs.Limit.{seen_from}
 use Rattle.account.specs.Surveys.{trail}
 use Rattle.account.proofs.survey_records.Given as goal
 
-abbrev pub invariant-loop-refusal : goal.invariant-loop-refusal
-invariant-loop-refusal l =
-    (length l.s ≡ 100)
-    × ((l.at ≤ length (l.front ++ l.back))
-    × (trail l.base (seen_from l.beyond l.last (l.front ++ l.back) l.at) l.at l.kept l.broken l.s ≡ trail l.base (seen_from l.beyond l.last (l.front ++ l.back) 0) 0 l.initial.kept l.initial.broken l.fn.s))
+abbrev pub invariant-loop-event : goal.invariant-loop-event
+invariant-loop-event l =
+    let bytes = l.seen.front.now ++ l.seen.back.now in
+    record {
+      inside : l.at ≤ length bytes;
+      left : trail l.base (seen_from l.seen.beyond l.seen.last bytes l.at) l.at l.tally l.s ≡ trail l.base (seen_from l.seen.beyond l.seen.last bytes 0) 0 l.fn.so_far l.fn.s;
+    }
 
-abbrev pub decreases-loop-refusal : goal.decreases-loop-refusal
-decreases-loop-refusal l = length (l.front ++ l.back) - l.at
+abbrev pub decreases-loop-event : goal.decreases-loop-event
+decreases-loop-event l = length (l.seen.front.now ++ l.seen.back.now) - l.at

@@ -1,9 +1,6 @@
--- Over, or the records of the piece and where they leave it.
-use Rattle.recording.proofs.Pieces.{when_over, when_going}
+-- The records of the piece, and where they leave it.
+use Rattle.recording.proofs.Pieces.{when_going}
 use Rattle.recording.proofs.feed.Goals as goal
-
-pub returns-then-begun : goal.returns-then-begun
-returns-then-begun c = when_over _ _ _ _ _ c.if-begun.true _ c.land.ensures
 
 pub returns : goal.returns
 returns c =

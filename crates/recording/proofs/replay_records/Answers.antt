@@ -1,82 +1,42 @@
 -- `replay_records` meets its contract: a record is taken and `Reached` holds at the next, or the stretch ends there as the definition's does.
-use mathlib.Core.Path.{refl, sym, ◌∙◌}
+use mathlib.Core.Path.{sym, ◌∙◌}
 use mathlib.Core.List.{◌++◌}
 use native.Mathlib.Omega.{arith}
-use borrow.Author.Rules.{rules}
 use Rattle.pieces.proofs.SeenFrom.{seen-advances}
 use Rattle.recording.specs.Parts.{ahead}
 use Rattle.recording.proofs.Reached.{begin}
 use Rattle.recording.proofs.Ahead.{ends, refused, takes, leaves}
 use Rattle.recording.proofs.replay_records.Goals as goal
 
-pub loop-refusal-init : goal.loop-refusal-init
-loop-refusal-init c =
+pub loop-event-init : goal.loop-event-init
+loop-event-init c =
     let a = c.args in
-    (c.requires, (refl, begin (ahead a.beyond a.last (a.front.now ++ a.back.now) 0 a.s.now) a.out.now))
+    begin (ahead a.seen.beyond a.seen.last (a.seen.front.now ++ a.seen.back.now) 0 a.s.now) a.out.now
 
-pub shape_of-s-in-End : goal.shape_of-s-in-End
-shape_of-s-in-End c =
-    c.loop-refusal.invariant.0 ∙ sym c.requires
-
-pub shape_of-out-in-End : goal.shape_of-out-in-End
-shape_of-out-in-End c = c.loop-refusal.invariant.1.1.size
-
-pub returns-in-End : goal.returns-in-End
-returns-in-End c =
-    let loop = c.loop-refusal in
-    ends _ _ _ _ _ _ _ _ _ loop.invariant.1.1 (sym c.read-found.ensures ∙ c.in-End.is)
+pub returns-in-Ok-None : goal.returns-in-Ok-None
+returns-in-Ok-None c = ends _ _ _ _ _ _ _ _ _ c.loop-event.invariant (sym c.read.ensures ∙ (rw c.in-Ok-None.field-0-is at c.in-Ok-None.is))
 
 pub stop-requires : goal.stop-requires
-stop-requires c = c.loop-refusal.invariant.1.1.within
+stop-requires c = c.loop-event.invariant.within
 
-pub shape_of-s-in-Refused : goal.shape_of-s-in-Refused
-shape_of-s-in-Refused c =
-    c.loop-refusal.invariant.0 ∙ sym c.requires
+pub returns-in-Err : goal.returns-in-Err
+returns-in-Err c = refused _ _ _ _ _ _ _ _ _ c.loop-event.invariant _ (sym c.read.ensures ∙ c.in-Err.is) _ _ c.stop.ensures
 
-pub shape_of-out-in-Refused : goal.shape_of-out-in-Refused
-shape_of-out-in-Refused c =
-    c.stop.auto.out ∙ c.loop-refusal.invariant.1.1.size
+pub take_event-requires : goal.take_event-requires
+take_event-requires c = c.loop-event.invariant.within
 
-pub returns-in-Refused : goal.returns-in-Refused
-returns-in-Refused c =
-    let loop = c.loop-refusal in
-    let found = sym c.read-found.ensures ∙ c.in-Refused.is in
-    refused _ _ _ _ _ _ _ _ _ loop.invariant.1.1 _ found _ _ c.stop.ensures
-
-pub take_event-n-requires : goal.take_event-n-requires
-take_event-n-requires c =
-    let loop = c.loop-refusal in
-    (loop.invariant.0, (loop.invariant.1.0, loop.invariant.1.1.within))
-
-pub shape_of-s-then-n-eq0 : goal.shape_of-s-then-n-eq0
-shape_of-s-then-n-eq0 c =
-    c.take_event-n.auto.s ∙ c.loop-refusal.invariant.0 ∙ sym c.requires
-
-pub shape_of-out-then-n-eq0 : goal.shape_of-out-then-n-eq0
-shape_of-out-then-n-eq0 c =
-    c.take_event-n.auto.out ∙ c.loop-refusal.invariant.1.1.size
-
-pub returns-then-n-eq0 : goal.returns-then-n-eq0
-returns-then-n-eq0 c =
-    let loop = c.loop-refusal in
-    let found = sym c.read-found.ensures ∙ c.in-Whole.is in
-    leaves _ _ _ _ _ _ _ _ _ _ _ found loop.invariant.1.1 _ _ _ c.take_event-n.ensures c.if-n-eq0.true
+pub returns-in_default : goal.returns-in_default
+returns-in_default c =
+    leaves _ _ _ _ _ _ _ _ _ _ _ (sym c.read.ensures ∙ (rw c.in-Ok-Some.field-0-is at c.in-Ok-Some.is)) c.loop-event.invariant _ _ _ c.take_event.ensures c.in_default.is
 
 pub overflow_add-written : goal.overflow_add-written
 overflow_add-written c =
-    let found = sym c.read-found.ensures ∙ c.in-Whole.is in
-    let next = takes _ _ _ _ _ _ _ _ _ _ _ found c.loop-refusal.invariant.1.1 _ _ _ c.take_event-n.ensures c.if-n-eq0.false in
+    let next = takes _ _ _ _ _ _ _ _ _ _ _ (sym c.read.ensures ∙ (rw c.in-Ok-Some.field-0-is at c.in-Ok-Some.is)) c.loop-event.invariant _ _ _ _ c.take_event.ensures c.in-Some.is in
     omega (arith, next.within, next.size)
 
-pub loop-refusal-smaller : goal.loop-refusal-smaller
-loop-refusal-smaller c =
-    let found = sym c.read-found.ensures ∙ c.in-Whole.is in
-    omega (arith, seen-advances _ _ _ _ _ _ found)
+pub loop-event-smaller : goal.loop-event-smaller
+loop-event-smaller c = omega (arith, seen-advances _ _ _ _ _ _ (sym c.read.ensures ∙ (rw c.in-Ok-Some.field-0-is at c.in-Ok-Some.is)))
 
-pub loop-refusal-preserved : goal.loop-refusal-preserved
-loop-refusal-preserved c =
-    let loop = c.loop-refusal in
-    let found = sym c.read-found.ensures ∙ c.in-Whole.is in (
-      c.take_event-n.auto.s ∙ loop.invariant.0,
-      (search rules, takes _ _ _ _ _ _ _ _ _ _ _ found loop.invariant.1.1 _ _ _ c.take_event-n.ensures c.if-n-eq0.false),
-    )
+pub loop-event-preserved : goal.loop-event-preserved
+loop-event-preserved c =
+    takes _ _ _ _ _ _ _ _ _ _ _ (sym c.read.ensures ∙ (rw c.in-Ok-Some.field-0-is at c.in-Ok-Some.is)) c.loop-event.invariant _ _ _ _ c.take_event.ensures c.in-Some.is

@@ -7,6 +7,6 @@ use Rattle.meetings.proofs.Pass.sight_page.Given as goal
 abbrev pub invariant-loop-b : goal.invariant-loop-b
 invariant-loop-b l =
     record {
-      end : l.b-end ≡ end_block l.pdr;
-      left : blocks_pass l.page l.par l.b (l.b-end - l.b) l.self ≡ blocks_pass l.page l.par (first_block l.pdr) (end_block l.pdr - first_block l.pdr) l.fn.self;
+      end : l.b-end ≡ end_block l.page.pdr;
+      left : blocks_pass l.page.place l.page.par l.b (l.b-end - l.b) l.self ≡ blocks_pass l.page.place l.page.par (first_block l.page.pdr) (end_block l.page.pdr - first_block l.page.pdr) l.fn.self;
     }
