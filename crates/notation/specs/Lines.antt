@@ -12,8 +12,8 @@ use Rattle.notation.specs.declared.Expected.{Expected}
 use Rattle.notation.specs.declared.Expected.TheVariants.{Name as AName, Field as AField, Amount as AnAmount, End}
 use Rattle.notation.specs.declared.Line.{Line}
 use Rattle.notation.specs.declared.Line.TheVariants.{Blank, Event as AnEvent, Byte}
-use Rattle.notation.specs.declared.named.Name.{Name}
-use Rattle.notation.specs.declared.named.Name.TheVariants.{Reference as NReference, Read as NRead, Write as NWrite, Instruction as NInstruction, Interrupt as NInterrupt, Change as NChange, Init as NInit, Byte as NByte}
+use Rattle.notation.specs.declared.Name.{Name}
+use Rattle.notation.specs.declared.Name.TheVariants.{Reference as NReference, Read as NRead, Write as NWrite, Instruction as NInstruction, Interrupt as NInterrupt, Change as NChange, Init as NInit, Byte as NByte}
 
 -- what a line says, or what was expected of it
 abbrev pub Said : Type 0

@@ -9,11 +9,24 @@ ghost use Rattle.notation.specs.Lines.{line_of};
 use rules::Event;
 
 mod fields;
+mod messages;
 mod named;
 mod words;
 
-use named::Name;
 use words::Words;
+
+// The name that a line begins with.
+#[derive(Clone, Copy, Debug, PartialEq, Eq)]
+pub enum Name {
+    Reference,
+    Read,
+    Write,
+    Instruction,
+    Interrupt,
+    Change,
+    Init,
+    Byte,
+}
 
 // A field with a number.
 #[derive(Clone, Copy, Debug, PartialEq, Eq)]

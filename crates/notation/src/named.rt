@@ -6,21 +6,8 @@ ghost use Rattle.notation.specs.Fields.{looked_up, most_of};
 ghost use Rattle.notation.specs.Lines.{names, field_of, amount_at, ending, reference_line, write_line, change_line, named_line};
 
 use crate::words::Words;
-use crate::{Expected, Field, Line};
+use crate::{Expected, Field, Line, Name};
 use rules::{Event, Reference};
-
-// The name that a line begins with.
-#[derive(Clone, Copy, Debug, PartialEq, Eq)]
-pub(crate) enum Name {
-    Reference,
-    Read,
-    Write,
-    Instruction,
-    Interrupt,
-    Change,
-    Init,
-    Byte,
-}
 
 impl Name {
     pub(crate) fn of(word: &[u8]) -> Option<Name>

@@ -4,44 +4,49 @@
 
 ghost use Rattle.std.specs.Prelude.{◌≡◌};
 ghost use Rattle.script.specs.Recording.{record_line, write_byte};
+ghost use Rattle.script.specs.declared.Problem.TheVariants.{Bad};
 
 use notation::{Expected, Line};
-use writer::Wrote;
 
-// What became of a line.
-#[derive(Clone, Copy)]
-pub enum Recorded {
-    // The new number of bytes used: the same for a line without a word.
-    Upto(usize),
+// Why a line is not recorded.
+#[derive(Clone, Copy, Debug, PartialEq, Eq)]
+pub enum Problem {
     // Its record does not fit in what is left.
     Full,
     // It says no event: what was expected.
     Bad(Expected),
 }
 
+impl From<Expected> for Problem {
+    ghost from_gives = { λ e p. p ≡ Bad e };
+
+    fn from(e: Expected) -> Problem {
+        Problem::Bad(e)
+    }
+}
+
 // A byte as it is, for a damaged recording.
-fn write_byte(out: &mut [u8], used: usize, b: u8) -> Recorded
+#[tactic(auto, unfolding(crate::specs::Recording::write_byte))]
+fn write_byte(out: &mut [u8], used: usize, b: u8) -> Result<usize, Problem>
     ensures { (result, out.new) ≡ write_byte out.old used b }
 {
     if used < out.len() {
         out[used] = b;
-        Recorded::Upto(used + 1)
+        Ok(used + 1)
     } else {
-        Recorded::Full
+        Err(Problem::Full)
     }
 }
 
-// Appends what a line says, without its line feed, to the bytes used so far.
-pub fn record_line(line: &[u8], out: &mut [u8], used: usize) -> Recorded
+// Appends what a line says, without its line feed, to the bytes used so far, and gives the new number of bytes used: the same for a
+// line without a word.
+#[tactic(auto, unfolding(crate::specs::Recording::record_line))]
+pub fn record_line(line: &[u8], out: &mut [u8], used: usize) -> Result<usize, Problem>
     ensures { (result, out.new) ≡ record_line line.now out.old used }
 {
-    match notation::read_line(line) {
-        Line::Blank => Recorded::Upto(used),
-        Line::Event(event) => match writer::write(out, used, event) {
-            Wrote::Upto(next) => Recorded::Upto(next),
-            Wrote::Refused(_) => Recorded::Full,
-        },
+    match notation::read_line(line)? {
+        Line::Blank => Ok(used),
+        Line::Event(event) => writer::write(out, used, event).map_err(|_| Problem::Full),
         Line::Byte(b) => write_byte(out, used, b),
-        Line::Bad(expected) => Recorded::Bad(expected),
     }
 }

@@ -2,7 +2,7 @@
 use Rattle.std.proofs.Common.{rules, arith, ◌≡◌}
 use Rattle.std.proofs.lemmas.Slice.Eq.{text_from_reads}
 use Rattle.lines.specs.Chars.{chars}
-use Rattle.notation.proofs.named.Name.of.Goals as goal
+use Rattle.notation.proofs.Name.of.Goals as goal
 
 pub returns-in-reference : goal.returns-in-reference
 returns-in-reference c =
