@@ -1,12 +1,15 @@
 -- Texts written one after the other are one text.
-use mathlib.Core.Path.{◌≡◌, refl, ◌∙◌}
+use mathlib.Core.Path.{◌≡◌, refl, sym, ◌∙◌}
 use mathlib.Core.List.{List, [], ◌∷◌, ◌++◌}
-use Prim.Native.Nat.{ℕ, suc, ◌+◌, ◌≤◌, ◌<◌}
+use Prim.Native.Nat.{ℕ, suc, ◌+◌, ◌≤◌}
 use native.Mathlib.Nat.{add-zero, zero-add}
-use native.Mathlib.Numerals.{add-one}
 use native.Mathlib.Omega.{arith}
-use lib.ListN.{length, take, drop, get_or, set, length-append}
-use lib.Seq.{sets, sets-eq, take-suc, take-length, length-take-le}
+use lib.ListN.{length, drop, set, length-append}
+use lib.Seq.{sets, sets-eq, take-length}
+use borrow.Rule.Slice.PartMut.{put_mid}
+use Rattle.std.specs.declared.option.Option.{Option}
+use Rattle.std.proofs.Common.{Some}
+use Rattle.std.proofs.lemmas.Slice.{put_mid-paste}
 use Rattle.wording.specs.Wrote.{Wrote}
 
 sets-append : (s t l : List ℕ) (i : ℕ) → sets (sets l i s) (i + length s) t ≡ sets l i (s ++ t)
@@ -20,22 +23,17 @@ then {out} {mid} {after} {at} {n} {m} {s} {t} p q =
       bytes = q.bytes ∙ rw (p.bytes, p.next) (sets-append s t out at);
     }
 
--- a copy, one character more
-pub none_yet : (out text : List ℕ) (at : ℕ) → out ≡ sets out at (take 0 text)
-none_yet out text at = refl
-
-pub one_more : (out after text : List ℕ) (at i : ℕ) → i < length text → after ≡ sets out at (take i text)
-    → set after (at + i) (get_or text i 0) ≡ sets out at (take (i + 1) text)
-one_more out after text at i h e =
-    let n : length (take i text) ≡ i = length-take-le i text (omega arith) in
-    rw (e, add-one i, take-suc text i 0 h) (rw n at (sets-append (take i text) (get_or text i 0 ∷ []) out at))
-
-pub all-copied : (out after text : List ℕ) (at i : ℕ) → i ≡ length text → after ≡ sets out at (take i text) → Wrote out at text (at + i) after
-all-copied out after text at i e h = record { next = rw e; bytes = h ∙ rw (e, take-length text) }
+-- a copy into its place
+pub copied : (out text now : List ℕ) (at k : ℕ) → now ≡ text → k ≡ length text → at + length text ≤ length out
+    → Wrote out at text (at + length text) (put_mid at k out now)
+copied out text now at k e l h = record {
+  next = refl;
+  bytes = rw (put_mid-paste at k out now text (length text) e (sym l) refl, take-length text, sets-eq text out at h);
+}
 
 -- the text at the start of an output
 pub at-start : (out after text : List ℕ) (n : ℕ) → Wrote out 0 text n after → n ≤ length out
-    → ◌≡◌ {A = ℕ × List ℕ} (n, after) (length text, text ++ drop (length text) out)
+    → ◌≡◌ {A = Option ℕ × List ℕ} (Some n, after) (Some (length text), text ++ drop (length text) out)
 at-start out after text n w h =
     let k : n ≡ length text = omega (arith, w.next) in
     rw (w.bytes, sets-eq text out 0 (omega (arith, w.next)), zero-add, k)

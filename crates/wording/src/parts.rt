@@ -1,57 +1,23 @@
 // The parts of a line, each written at a place of the output and answering the place after it.
 
-ghost use Rattle.std.specs.Prelude.{◌≡◌, ◌∷◌, [], ◌+◌, ◌%◌, ◌≤◌, length};
+ghost use Rattle.std.specs.Prelude.{◌+◌, ◌≤◌, length};
 ghost use Rattle.rules.specs.Paper.{number};
-ghost use Rattle.lines.specs.Digits.{digit, decimal, octal};
+ghost use Rattle.lines.specs.Digits.{decimal, octal};
 ghost use Rattle.wording.specs.Wrote.{Wrote};
 ghost use Rattle.wording.specs.Texts.{reason_text, mode_text, set_text, page_text};
 
 use auditing::Reason;
 use rules::Refusal;
 
+// The place goes along by itself: an output with its place in one struct would be a lent slice behind a lent struct, no plainer in a
+// clause, which names the output before and after.
 pub(crate) fn put(out: &mut [u8], at: usize, text: &[u8]) -> usize
     requires { at + length text.now ≤ length out.old }
     ensures { Wrote out.old at text.now result out.new }
 {
-    let mut i = 0;
-    while i < text.len() {
-        out[at + i] = text[i];
-        i += 1;
-    }
-    at + i
-}
-
-fn put_char(out: &mut [u8], at: usize, c: u8) -> usize
-    requires { at + 1 ≤ length out.old }
-    ensures { Wrote out.old at (c ∷ []) result out.new }
-{
-    out[at] = c;
-    at + 1
-}
-
-fn tens(n: usize) -> u8
-    ensures { result ≡ digit (n % 10) }
-{
-    48 + (n % 10) as u8
-}
-
-fn eights(n: usize) -> u8
-    ensures { result ≡ digit (n % 8) }
-{
-    48 + (n % 8) as u8
-}
-
-// four decimal digits
-fn put_four(out: &mut [u8], at: usize, n: usize) -> usize
-    requires { at + 4 ≤ length out.old }
-    ensures { Wrote out.old at (decimal 4 n) result out.new }
-{
-    let n1 = n / 10;
-    let n2 = n1 / 10;
-    let a = put_char(out, at, tens(n2 / 10));
-    let b = put_char(out, a, tens(n2));
-    let c = put_char(out, b, tens(n1));
-    put_char(out, c, tens(n))
+    let end = at + text.len();
+    out[at..end].copy_from_slice(text);
+    end
 }
 
 // a byte's offset: eight decimal digits
@@ -59,21 +25,15 @@ pub(crate) fn put_offset(out: &mut [u8], at: usize, n: usize) -> usize
     requires { at + 8 ≤ length out.old }
     ensures { Wrote out.old at (decimal 8 n) result out.new }
 {
-    let a = put_four(out, at, n / 10000);
-    put_four(out, a, n)
+    put(out, at, &lines::decimal::<8>(n as u64))
 }
 
 // a block: four octal digits
-pub(crate) fn put_block(out: &mut [u8], at: usize, n: usize) -> usize
+pub(crate) fn put_block(out: &mut [u8], at: usize, block: u16) -> usize
     requires { at + 4 ≤ length out.old }
-    ensures { Wrote out.old at (octal 4 n) result out.new }
+    ensures { Wrote out.old at (octal 4 block) result out.new }
 {
-    let n1 = n / 8;
-    let n2 = n1 / 8;
-    let a = put_char(out, at, eights(n2 / 8));
-    let b = put_char(out, a, eights(n2));
-    let c = put_char(out, b, eights(n1));
-    put_char(out, c, eights(n))
+    put(out, at, &lines::octal::<4>(u64::from(block)))
 }
 
 // a refusal's number: two decimal digits
@@ -81,9 +41,7 @@ pub(crate) fn put_number(out: &mut [u8], at: usize, refusal: Refusal) -> usize
     requires { at + 2 ≤ length out.old }
     ensures { Wrote out.old at (decimal 2 (number refusal)) result out.new }
 {
-    let n = rules::number(refusal) as usize;
-    let a = put_char(out, at, tens(n / 10));
-    put_char(out, a, tens(n))
+    put(out, at, &lines::decimal::<2>(u64::from(u32::from(refusal))))
 }
 
 pub(crate) fn put_reason(out: &mut [u8], at: usize, reason: Reason) -> usize
@@ -105,23 +63,21 @@ fn put_mode(out: &mut [u8], at: usize, mode: u8) -> usize
     requires { at + 10 ≤ length out.old }
     ensures { Wrote out.old at (mode_text mode) result out.new × (result ≤ at + 10) }
 {
-    if mode == 0 {
-        return put(out, at, b"Kernel");
+    match mode {
+        0 => put(out, at, b"Kernel"),
+        1 => put(out, at, b"Supervisor"),
+        _ => put(out, at, b"User"),
     }
-    if mode == 1 {
-        return put(out, at, b"Supervisor");
-    }
-    put(out, at, b"User")
 }
 
 fn put_set(out: &mut [u8], at: usize, set: u8) -> usize
     requires { at + 3 ≤ length out.old }
     ensures { Wrote out.old at (set_text set) result out.new × (result ≤ at + 3) }
 {
-    if set == 0 {
-        return put(out, at, b" I ");
+    match set {
+        0 => put(out, at, b" I "),
+        _ => put(out, at, b" D "),
     }
-    put(out, at, b" D ")
 }
 
 // a page by its place among the 48: mode, set and number
@@ -131,5 +87,5 @@ pub(crate) fn put_page(out: &mut [u8], at: usize, page: u8) -> usize
 {
     let a = put_mode(out, at, page / 16);
     let b = put_set(out, a, page / 8 % 2);
-    put_char(out, b, 48 + page % 8)
+    put(out, b, &[b'0' + page % 8])
 }

@@ -13,5 +13,5 @@ returns-then-out-lt320 c = (rw (lt-ltb _ _ c.if-out-lt320.true), search rules)
 pub returns : goal.returns
 unfolding placed_of
 returns c =
-    let w = c.put_audited.ensures in
+    let w = c.put_report.ensures in
     (rw (le-ltb _ _ c.if-out-lt320.false) (at-start _ _ _ _ w.0 (omega (arith, w.1))), search rules)

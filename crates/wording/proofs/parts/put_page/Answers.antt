@@ -5,4 +5,4 @@ use Rattle.wording.proofs.parts.put_page.Goals as goal
 
 pub returns : goal.returns
 returns c =
-    ((then (then c.put_mode-a.ensures.0 c.put_set-b.ensures.0) c.put_char.ensures), search rules)
+    ((then (then c.put_mode-a.ensures.0 c.put_set-b.ensures.0) c.put.ensures), search rules)

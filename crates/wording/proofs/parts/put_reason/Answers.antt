@@ -1,12 +1,6 @@
--- `put_reason` meets its contract: each arm is a case of the definition.
+-- The longer reasons: each arm is a case of the definition.
 use borrow.Author.Rules.{rules}
 use Rattle.wording.proofs.parts.put_reason.Goals as goal
-
-pub returns-in-Init : goal.returns-in-Init
-returns-in-Init c = (rw c.in-Init.is c.put.ensures, search rules)
-
-pub returns-in-WritesSr3 : goal.returns-in-WritesSr3
-returns-in-WritesSr3 c = (rw c.in-WritesSr3.is c.put-in-WritesSr3.ensures, search rules)
 
 pub returns-in-RelocationOff : goal.returns-in-RelocationOff
 returns-in-RelocationOff c = (rw c.in-RelocationOff.is c.put-in-RelocationOff.ensures, search rules)

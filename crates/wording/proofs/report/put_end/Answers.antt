@@ -3,16 +3,16 @@ use borrow.Author.Rules.{rules}
 use Rattle.wording.proofs.Chain.{then}
 use Rattle.wording.proofs.report.put_end.Goals as goal
 
-pub returns-in-All : goal.returns-in-All
-returns-in-All c = (
-  rw c.in-All.is (then c.put-a.ensures
+pub returns-in-Ok : goal.returns-in-Ok
+returns-in-Ok c = (
+  rw c.in-Ok.is (then c.put-a.ensures
       (then c.put_offset-b.ensures c.put.ensures)),
   search rules,
 )
 
-pub returns-in-Stopped : goal.returns-in-Stopped
-returns-in-Stopped c = (
-  rw c.in-Stopped.is (then c.put-a-in-Stopped.ensures (then c.put_number-b.ensures
-      (then c.put-c.ensures (then c.put_offset-d.ensures c.put-in-Stopped.ensures)))),
+pub returns-in-Err : goal.returns-in-Err
+returns-in-Err c = (
+  rw c.in-Err.is (then c.put-a-in-Err.ensures (then c.put_number-b.ensures
+      (then c.put-c.ensures (then c.put_offset-d.ensures c.put-in-Err.ensures)))),
   search rules,
 )
