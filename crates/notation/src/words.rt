@@ -16,7 +16,8 @@ fn in_word(c: u8) -> bool
     !(blank(c) || c == b'#')
 }
 
-// how many blanks a text begins with
+// how many blanks a text begins with; one function for the three tests would be no plainer: its clause would have to assume of a
+// closure that it computes a test, where these name theirs
 fn blanks(t: &[u8]) -> usize
     ensures { (result ≡ prefix_len blank_of t.now) × (result ≤ length t.now) }
 {

@@ -1,5 +1,5 @@
 -- The measure of the loop over a text's lines falls: with less text; with the output written.
-use Rattle.std.proofs.Common.{◌≡◌, ℕ, suc, ◌<◌, ◌≤◌, Bool, true, false, cond, eqb, true≢false, arith}
+use Rattle.std.proofs.Common.{◌≡◌, ℕ, ◌+◌, ◌<◌, ◌≤◌, Bool, true, false, cond, eqb, ne_eqb, arith}
 
 -- whether bytes are used
 abbrev pub waiting : ℕ → ℕ
@@ -12,7 +12,5 @@ waiting_least n = by (eqb n 0)
     by true = omega arith
     by false = omega arith
 
-pub falls : (over over' : Bool) (k k' : ℕ) → over ≡ false → k' < k → cond over' 0 (suc k') < cond over 0 (suc k)
-falls true over' k k' e h = absurd (true≢false e)
-falls false true k k' e h = omega arith
-falls false false k k' e h = omega arith
+pub falls : (left used used' : ℕ) → used' ≡ 0 → (used ≡ 0 → ⊥) → left + waiting used' < left + waiting used
+falls left used used' z some = rw (z, ne_eqb used 0 some) (omega arith)

@@ -4,34 +4,22 @@
 
 #![tactic(auto)]
 
-mod complaint;
+mod stop;
 
 ghost use Rattle.std.specs.Prelude.{◌≡◌, ◌+◌, ◌<◌, ◌≤◌, length, IfOk};
 
-use script::Recorded;
+use script::Problem;
 use std::io;
 use std::io::Read;
+use stop::Stop;
 
 // Where a run stands.
 #[derive(Clone, Copy)]
 struct Run {
-    // Bytes at the start of the text that are read and not yet recorded.
-    have: usize,
     // Bytes of the output that are used.
     used: usize,
     // The number of the line that comes next, from 1.
     line: u64,
-    over: bool,
-}
-
-// What became of a text's lines.
-#[derive(Clone, Copy)]
-struct Lines {
-    // The place of the first byte that is not recorded.
-    at: usize,
-    used: usize,
-    line: u64,
-    over: bool,
 }
 
 // one read, into the text from a place on; how many bytes came
@@ -42,179 +30,85 @@ fn read_at<R: Read>(input: &mut R, text: &mut [u8], at: usize) -> io::Result<usi
     input.read(&mut text[at..])
 }
 
-// writes the bytes used; whether that went well
-fn flush(rt: &(impl Print + Eprint), out: &[u8], used: usize) -> bool
-    requires { used ≤ length out.now }
-{
-    match rt.write_all(&out[..used]) {
-        Ok(()) => true,
-        Err(error) => {
-            let _ = eprintln!(rt; "record: standard output: {error}");
-            false
-        }
+impl Run {
+    // writes the bytes used; none are afterwards, also where that fails
+    fn flush(&mut self, rt: &impl Print, out: &[u8]) -> Result<(), Stop>
+        requires { self.old.used ≤ length out.now }
+        ensures { self.new.used ≡ 0 }
+    {
+        let used = self.used;
+        self.used = 0;
+        rt.write_all(&out[..used]).map_err(Stop::Output)
     }
-}
 
-// every line that has its line feed; a full output is written, and the line taken again
-fn record_lines(
-    rt: &(impl Print + Eprint),
-    text: &[u8],
-    out: &mut [u8],
-    used: usize,
-    line: u64,
-) -> Lines
-    requires { (7 ≤ length out.old) × (used ≤ length out.old) }
-    ensures { (result.at ≤ length text.now) × (result.used ≤ length out.old) }
-{
-    let mut at = 0;
-    let mut used = used;
-    let mut line = line;
-    let mut over = false;
-    let mut end = notation::line_end(text, at);
-    while !over && end < text.len() {
-        match script::record_line(&text[at..end], out, used) {
-            Recorded::Upto(next) => {
-                at = end + 1;
-                used = next;
-                line = line.wrapping_add(1);
-                end = notation::line_end(text, at);
-            }
-            Recorded::Full => {
-                over = !flush(rt, out, used);
-                used = 0;
-            }
-            Recorded::Bad(expected) => {
-                complaint::bad(rt, line, expected);
-                over = true;
+    // every line that has its line feed; a full output is written, and the line taken again; the place of the first byte that is
+    // not recorded
+    fn lines(&mut self, rt: &impl Print, text: &[u8], out: &mut [u8]) -> Result<usize, Stop>
+        requires { (7 ≤ length out.old) × (self.old.used ≤ length out.old) }
+        ensures used { self.new.used ≤ length out.old }
+        ensures place { IfOk result (λ at. at ≤ length text.now) }
+    {
+        let mut at = 0;
+        let mut end = notation::line_end(text, at);
+        while end < text.len() {
+            match script::record_line(&text[at..end], out, self.used) {
+                Ok(next) => {
+                    at = end + 1;
+                    self.used = next;
+                    self.line = self.line.wrapping_add(1);
+                    end = notation::line_end(text, at);
+                }
+                Err(Problem::Full) => self.flush(rt, out)?,
+                Err(Problem::Bad(expected)) => return Err(Stop::Bad(self.line, expected)),
             }
         }
+        Ok(at)
     }
-    Lines {
-        at,
-        used,
-        line,
-        over,
-    }
-}
 
-// moves the text's bytes from a place on to its start; how many they are
-fn keep(text: &mut [u8], from: usize, have: usize) -> usize
-    requires { (from ≤ have) × (have ≤ length text.old) }
-    ensures { result ≤ length text.old }
-{
-    let left = have - from;
-    let mut i = 0;
-    while i < left {
-        text[i] = text[from + i];
-        i += 1;
-    }
-    left
-}
-
-// a run that records nothing more
-fn over(used: usize, line: u64) -> Run
-    ensures { (result.have ≡ 0) × (result.used ≡ used) }
-{
-    Run {
-        have: 0,
-        used,
-        line,
-        over: true,
-    }
-}
-
-// the lines that end in the text's bytes, and what follows the last of them kept
-fn go_on(
-    rt: &(impl Print + Eprint),
-    text: &mut [u8],
-    have: usize,
-    out: &mut [u8],
-    used: usize,
-    line: u64,
-) -> Run
-    requires { (0 < length text.old) × (have ≤ length text.old) × (7 ≤ length out.old) × (used ≤ length out.old) }
-    ensures { (result.have < length text.old) × (result.used ≤ length out.old) }
-{
-    let lines = record_lines(rt, &text[..have], out, used, line);
-    if lines.over {
-        return over(lines.used, lines.line);
-    }
-    let left = keep(text, lines.at, have);
-    if left < text.len() {
-        return Run {
-            have: left,
-            used: lines.used,
-            line: lines.line,
-            over: false,
-        };
-    }
-    complaint::long(rt, lines.line);
-    over(lines.used, lines.line)
-}
-
-// the last line, which needs no line feed
-fn finish(
-    rt: &(impl Print + Eprint),
-    text: &mut [u8],
-    have: usize,
-    out: &mut [u8],
-    used: usize,
-    line: u64,
-) -> Run
-    requires { (have < length text.old) × (7 ≤ length out.old) × (used ≤ length out.old) }
-    ensures { (result.have ≡ 0) × (result.used ≤ length out.old) }
-{
-    text[have] = b'\n';
-    let all = have + 1;
-    let lines = record_lines(rt, &text[..all], out, used, line);
-    over(lines.used, lines.line)
-}
-
-// one read, and what it brings
-fn turn<R: Read>(
-    rt: &(impl Print + Eprint),
-    input: &mut R,
-    text: &mut [u8],
-    out: &mut [u8],
-    run: Run,
-) -> Run
-    requires { (run.have < length text.old) × (7 ≤ length out.old) × (run.used ≤ length out.old) }
-    ensures { (result.have < length text.old) × (result.used ≤ length out.old) }
-{
-    let have = run.have;
-    let count = match read_at(input, text, have) {
-        Ok(count) => count,
-        Err(error) => {
-            let _ = eprintln!(rt; "record: standard input: {error}");
-            return over(run.used, run.line);
+    // read by read, what follows the last line feed kept; the last line needs none. A proved loop has to end, and nothing says that
+    // the input does: so the reads have a number that no run uses up.
+    fn record<R: Read>(
+        &mut self,
+        rt: &impl Print,
+        input: &mut R,
+        text: &mut [u8],
+        out: &mut [u8],
+    ) -> Result<(), Stop>
+        requires { (0 < length text.old) × (7 ≤ length out.old) × (self.old.used ≤ length out.old) }
+        ensures { self.new.used ≤ length out.old }
+    {
+        let mut have = 0;
+        for _ in 0..u64::MAX {
+            let count = read_at(input, text, have).map_err(Stop::Input)?;
+            if count == 0 {
+                text[have] = b'\n';
+                let all = have + 1;
+                self.lines(rt, &text[..all], out)?;
+                return Ok(());
+            }
+            let end = have + count;
+            let at = self.lines(rt, &text[..end], out)?;
+            text.copy_within(at..end, 0);
+            have = end - at;
+            if have == text.len() {
+                return Err(Stop::Long(self.line));
+            }
         }
-    };
-    if count == 0 {
-        return finish(rt, text, have, out, run.used, run.line);
+        Ok(())
     }
-    go_on(rt, text, have + count, out, run.used, run.line)
 }
 
-// A proved loop has to end, and nothing says that the input does: so the turns are counted down from a number that no run uses up.
-fn record<R: Read>(rt: &(impl Print + Eprint), input: &mut R, text: &mut [u8], out: &mut [u8])
-    requires { (7 ≤ length out.old) × (0 < length text.old) }
-{
-    let mut run = Run {
-        have: 0,
-        used: 0,
-        line: 1,
-        over: false,
-    };
-    let mut turns = u64::MAX;
-    while turns > 0 && !run.over {
-        run = turn(rt, input, text, out, run);
-        turns -= 1;
+// where standard error can't be written, nobody is told
+fn tell(rt: &impl Eprint, ended: Result<(), Stop>) {
+    if let Err(stop) = ended {
+        let _ = eprintln!(rt; "record: {stop}");
     }
-    flush(rt, out, run.used);
 }
 
 fn main(rt: HostRuntime) {
     let mut text = [0u8; 4096];
     let mut out = [0u8; 4096];
-    record(&rt, &mut rt.stdin(), &mut text, &mut out);
+    let mut run = Run { used: 0, line: 1 };
+    tell(&rt, run.record(&rt, &mut rt.stdin(), &mut text, &mut out));
+    tell(&rt, run.flush(&rt, &out));
 }
