@@ -12,9 +12,9 @@ use Rattle.stream.specs.Ready.{waiting}
 use Rattle.account.specs.Reports.{audit_of}
 use Rattle.account.specs.Surveys.{begins, surveyed, surveys_of, report_of, trail, how_by}
 use Rattle.account.specs.declared.Survey.{Survey}
-use Rattle.account.specs.declared.Audited.{Audited}
-use Rattle.account.specs.declared.Ending.{Ending}
-use Rattle.account.specs.declared.Ending.TheVariants.{All, Stopped}
+use Rattle.account.specs.declared.Report.{Report}
+use Rattle.rules.specs.declared.Refusal.{Refusal}
+use Rattle.account.specs.Runs.{Ending}
 use Rattle.wording.specs.Texts.{text_of}
 use Rattle.audit.specs.Audits.{Audits}
 use Rattle.account.proofs.AnyCut.{any_cut}
@@ -48,15 +48,15 @@ bytes_more (p ∷ ps) piece = ap (λ (s : List ℕ). p ++ s) (bytes_more ps piec
 -- after the last piece the run is over
 closes : (b : Begun) (piece : List ℕ) (at : ℕ) (e : Ending) → (landed b piece true at (how_by e)).begun.over ≡ true
 unfolding landed
-closes b piece at All = refl
-closes b piece at (Stopped r) = refl
+closes b piece at (Ok x) = refl
+closes b piece at (Err r) = refl
 
 over_at_last : (v : Survey) (piece l : List ℕ) → (surveyed l v piece true).0.begun.over ≡ true
 unfolding surveyed
 over_at_last v piece l = closes v.begun piece _ _
 
 abbrev Found : Type 0
-Found = Audited × List ℕ
+Found = Result Report Refusal × List ℕ
 
 -- a survey's report, with the store
 found : Survey × List ℕ → Found
@@ -68,7 +68,7 @@ closed : (v : Survey) (rest l : List ℕ) → v.begun.over ≡ true
 unfolding surveyed trail landed report_of found
 closed v rest l o =
     rw (tells_none v.begun rest true l o, o)
-    (ap (λ (at : ℕ). found (record { begun = record { held = v.begun.held; at = at; over = v.begun.over }; kept = v.kept; broken = v.broken; ending = v.ending }, l)) (stays v.begun))
+    (ap (λ (at : ℕ). found (record { begun = record { held = v.begun.held; at = at; over = v.begun.over }; tally = v.tally; ending = v.ending }, l)) (stays v.begun))
   where
     stays : (b : Begun) → onward b 0 ≡ b.at
     stays b = omega arith
@@ -124,7 +124,7 @@ module _ (l : List ℕ) (v : Survey) (piece : List ℕ) (last : Bool) (x : Surve
           ∙ any_cut n.0 zs l₀ ∙ ap (audit_of l₀) n.2
 
 -- the report written, its error mapped
-pub told : {T E D : Type 0} (r : Result T E) (r' : Result T D) (known before before' after : Option (List ℕ)) (a : Audited) (l₀ l : List ℕ)
+pub told : {T E D : Type 0} (r : Result T E) (r' : Result T D) (known before before' after : Option (List ℕ)) (a : Result Report Refusal) (l₀ l : List ℕ)
     → is_ok r' ≡ is_ok r → before' ≡ before → OnOk r (Appends before' after (text_of a))
     → IfSome known (λ xs. ◌≡◌ {A = Found} (a, l) (audit_of l₀ xs)) → Audits r' known before after l₀ l
 told r (Err d) known before before' after a l₀ l k b w f = tt

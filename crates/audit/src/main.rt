@@ -19,7 +19,7 @@ fn tell<W: Write>(output: &mut W, registers: &[u16], survey: Survey) -> io::Resu
     ensures { OnOk result (Appends (W.contents output.old) (W.contents output.new) (text_of (report_of registers.now survey))) }
 {
     let mut text = [0u8; 4096];
-    let n = wording::write(&mut text, account::finish(registers, survey));
+    let n = wording::write(&mut text, account::finish(registers, survey)).unwrap_or(0);
     output.write_all(&text[..n])
 }
 
