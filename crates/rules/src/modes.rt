@@ -45,12 +45,12 @@ impl Mode {
     pub fn enables_d(self, sr3: u16) -> bool
         ensures { result ≡ enables_d_of sr3 (mode_number self) }
     {
-        let bits = match self {
-            Mode::Kernel => sr3 / 4,
-            Mode::Supervisor => sr3 / 2,
-            Mode::User => sr3,
+        let bit = match self {
+            Mode::Kernel => 2,
+            Mode::Supervisor => 1,
+            Mode::User => 0,
         };
-        bits % 2 == 1
+        (sr3 >> bit) % 2 == 1
     }
 }
 
