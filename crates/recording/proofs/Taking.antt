@@ -1,15 +1,15 @@
--- An event and its line: where there is room for any line it is written; else by whether it fits.
+-- An event and its line, by whether the line fits: where it does not, there was not room for any.
 use Rattle.std.proofs.Common.{Some}
 use Rattle.std.specs.declared.option.Option.{Option}
 use Rattle.std.specs.Option.{is_some}
 use mathlib.Core.Path.{◌≡◌, refl, sym, ap, ◌∙◌}
-use mathlib.Core.Bool.{Bool, true, false}
+use mathlib.Core.Bool.{Bool, true, false, cond}
 use mathlib.Core.List.{List}
-use Prim.Native.Nat.{ℕ, ◌+◌, ◌-◌, ◌≤◌}
+use Prim.Native.Nat.{ℕ, ◌+◌, ◌-◌, ◌<◌, ◌≤◌}
 use native.Mathlib.Omega.{arith}
-use lib.Dec.{leb}
+use lib.Dec.{leb, ltb}
 use lib.ListN.{length}
-use borrow.Author.Tests.{leb-true, leb-false, le-leb}
+use borrow.Author.Tests.{leb-true, leb-false, lt-ltb}
 use Rattle.rules.specs.Step.{step}
 use Rattle.rules.specs.declared.Event.{Event}
 use Rattle.lines.specs.Lines.{Text, line_of, longest, placed}
@@ -50,20 +50,18 @@ module _ (l : List ℕ) (e : Event) (out : List ℕ) (n : ℕ) (w : n ≤ length
       let f = placing ∙ unfit out n line (omega (arith, leb-false (length line) room h, w)) in
       rw h (ap (λ (x : Option ℕ × List ℕ). (x.0, l, x.1)) f)
 
-  pub room_for_any : longest ≤ length out - n → (l' : List ℕ) → l' ≡ (step l e).1 → (put, l', out') ≡ taken l e out n
+  pub not_put : is_some put ≡ false → (spare kept : List ℕ) → kept ≡ cond (ltb (length out - n) longest) l spare → (put, kept, out') ≡ taken l e out n
   unfolding line room
-  room_for_any h l' f = rw f (fit (le-leb (length line) room (omega (arith, most (step l e).0, h))))
-
-  pub not_put : is_some put ≡ false → (put, l, out') ≡ taken l e out n
-  unfolding line room
-  not_put h = of (leb (length line) room) refl
+  not_put h spare kept s = of (leb (length line) room) refl
     where
-      of : (b : Bool) → leb (length line) room ≡ b → (put, l, out') ≡ taken l e out n
+      of : (b : Bool) → leb (length line) room ≡ b → (put, kept, out') ≡ taken l e out n
       of true k =
           let f : put ≡ Some (length line) = ap (λ (x : Option ℕ × List ℕ). x.0) (placing ∙ fits out n line (omega (arith, leb-true (length line) room k, w))) in
           let z : true ≡ false = rw f at h in
           cc
-      of false k = no-fit k
+      of false k =
+          let short : length out - n < longest = omega (arith, leb-false (length line) room k, most (step l e).0) in
+          rw (s, lt-ltb (length out - n) longest short) (no-fit k)
 
   pub was_put : is_some put ≡ true → (l' : List ℕ) → l' ≡ (step l e).1 → (put, l', out') ≡ taken l e out n
   unfolding line room

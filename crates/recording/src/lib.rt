@@ -3,10 +3,10 @@
 
 #![tactic(auto)]
 
-ghost use Rattle.std.specs.Prelude.{◌≡◌, ◌≤◌, ◌++◌, length};
+ghost use Rattle.std.specs.Prelude.{◌≡◌, ◌≤◌, ◌++◌, length, ltb, cond};
 ghost use Rattle.rules.specs.Paper.{X, number};
 ghost use Rattle.rules.specs.Step.{step};
-ghost use Rattle.lines.specs.Lines.{line_of, placed};
+ghost use Rattle.lines.specs.Lines.{line_of, longest, placed};
 ghost use Rattle.transcript.specs.Feeding.{fed};
 ghost use Rattle.recording.specs.Parts.{taken, ended, ahead, going, shown};
 
@@ -31,28 +31,32 @@ fn put_event(s: &mut Store, e: Event, out: &mut [u8], written: usize) -> Option<
     lines::put(out, written, answer)
 }
 
-// the same, but nothing happens where the line does not fit: the store kept aside is given back
-fn put_or_give_back(s: &mut Store, e: Event, out: &mut [u8], written: usize) -> Option<usize>
-    requires { written ≤ length out.old }
-    ensures { (result, s.new, out.new) ≡ taken s.old e out.old written }
+// the store is kept aside where there is not room for any line: a copy for each event would be slower
+fn keep(s: &Store, spare: &mut Store, room: usize)
+    ensures { spare.new ≡ cond (ltb room longest) s.now spare.old }
 {
-    let kept = *s;
-    let put = put_event(s, e, out, written);
-    if put.is_none() {
-        *s = kept;
+    if room < LONGEST {
+        *spare = *s;
     }
-    put
 }
 
-// the same, with no copy of the store where there is room for any line
-fn take_event(s: &mut Store, e: Event, out: &mut [u8], written: usize) -> Option<usize>
+// the same, but nothing happens where the line does not fit: the store kept aside is given back
+fn take_event(
+    s: &mut Store,
+    e: Event,
+    out: &mut [u8],
+    written: usize,
+    spare: &mut Store,
+) -> Option<usize>
     requires { written ≤ length out.old }
     ensures { (result, s.new, out.new) ≡ taken s.old e out.old written }
 {
-    if out.len() - written < LONGEST {
-        return put_or_give_back(s, e, out, written);
+    keep(s, spare, out.len() - written);
+    let put = put_event(s, e, out, written);
+    if put.is_none() {
+        *s = *spare;
     }
-    put_event(s, e, out, written)
+    put
 }
 
 // a refusal that stops the replay: its line, where it fits
@@ -79,6 +83,7 @@ fn stop(out: &mut [u8], at: usize, written: usize, refusal: Refusal) -> Stepped
 fn replay_records(s: &mut Store, seen: Seen<'_>, out: &mut [u8]) -> Stepped
     ensures { (result, s.new, out.new) ≡ shown (ahead seen.entry.beyond seen.entry.last (seen.entry.front.now ++ seen.entry.back.now) 0 s.old (length out.old)) out.old }
 {
+    let mut spare = [0; WORDS];
     let mut at = 0;
     let mut written = 0;
     loop {
@@ -94,7 +99,7 @@ fn replay_records(s: &mut Store, seen: Seen<'_>, out: &mut [u8]) -> Stepped
                 return stop(out, at, written, refusal);
             }
             Ok(Some((event, next))) => {
-                let Some(n) = take_event(s, event, out, written) else {
+                let Some(n) = take_event(s, event, out, written, &mut spare) else {
                     return Stepped {
                         at,
                         how: How::Full,

@@ -1,6 +1,9 @@
--- Else there is room for any line.
-use Rattle.recording.proofs.Taking.{room_for_any}
+-- Where the line is not put the store kept aside is given back.
+use Rattle.recording.proofs.Taking.{not_put, was_put}
 use Rattle.recording.proofs.take_event.Goals as goal
 
-pub returns : goal.returns
-returns c = room_for_any _ _ _ _ c.requires _ _ c.put_event.ensures.1 c.if-out-written-lt-LONGEST.false _ c.put_event.ensures.0
+pub returns-then-is_none : goal.returns-then-is_none
+returns-then-is_none c = not_put _ _ _ _ c.requires _ _ c.put_event-put.ensures.1 c.if-is_none.ensures _ _ c.keep.ensures
+
+pub returns-else-is_none : goal.returns-else-is_none
+returns-else-is_none c = was_put _ _ _ _ c.requires _ _ c.put_event-put.ensures.1 c.if-is_none.ensures _ c.put_event-put.ensures.0
