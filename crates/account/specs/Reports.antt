@@ -9,7 +9,7 @@ use Rattle.pieces.specs.Limit.{records_of}
 use Rattle.widening.specs.Runs.{calm}
 use Rattle.auditing.specs.Verdicts.{Verdict, verdict_of}
 use Rattle.auditing.specs.declared.Reason.{Reason}
-use Rattle.meetings.specs.Parting.{meeting_in}
+use Rattle.meetings.specs.Parting.{parting_of}
 use Rattle.account.specs.declared.Course.{Course}
 use Rattle.account.specs.declared.Report.{Report}
 use Rattle.account.specs.Runs.{Point, Run, run}
@@ -56,7 +56,7 @@ course_of q = (
 
 -- the report of a course, with the last store's map
 abbrev pub reported : Course × List ℕ → Result Report Refusal × List ℕ
-reported c = (Ok (record { course = c.0; map = meeting_in c.1 }), c.1)
+reported c = (Ok (record { course = c.0; map = parting_of c.1 }), c.1)
 
 -- the audit of a whole recording: 1 is tested first
 unfoldable pub audit_of : List ℕ → List ℕ → Result Report Refusal × List ℕ

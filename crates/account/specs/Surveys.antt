@@ -9,7 +9,7 @@ use Rattle.pieces.specs.Begun.{fresh, to_tell, landed}
 use Rattle.pieces.specs.declared.How.{How}
 use Rattle.pieces.specs.declared.How.TheVariants.{Spent, Stopped}
 use Rattle.auditing.specs.Verdicts.{verdict_of}
-use Rattle.meetings.specs.Parting.{meeting_in}
+use Rattle.meetings.specs.Parting.{parting_of}
 use Rattle.account.specs.declared.Tally.{Tally}
 use Rattle.account.specs.declared.Course.{Course}
 use Rattle.account.specs.declared.Report.{Report}
@@ -55,7 +55,7 @@ abbrev pub course_by : Survey → Course
 course_by v = course v.tally v.begun.at v.ending
 
 unfoldable pub report_of : List ℕ → Survey → Result Report Refusal
-report_of l v = cond (eqb (length l) 100) (Ok (record { course = course_by v; map = meeting_in l })) (Err Store)
+report_of l v = cond (eqb (length l) 100) (Ok (record { course = course_by v; map = parting_of l })) (Err Store)
 
 -- piece after piece, none of them the last
 unfoldable pub surveys_of : List (List ℕ) → Survey → List ℕ → Survey × List ℕ

@@ -35,7 +35,7 @@ pub struct Course {
 #[derive(Clone, Copy, Debug, PartialEq, Eq)]
 pub struct Report {
     pub course: Course,
-    pub map: Option<Meeting>,
+    pub map: Result<Option<Meeting>, Refusal>,
 }
 
 // What the records so far tell, with the state between two pieces.
@@ -179,17 +179,19 @@ pub fn feed(s: &mut [u16], so_far: Survey, piece: &[u8], last: bool) -> Survey
 }
 
 // The report of an audit that is at its end, from the store as it was left: refused by 1, or the course and the store's map.
-#[tactic(auto, unfolding(crate::specs::Surveys::report_of, meetings::specs::Parting::parting_of))]
+#[tactic(auto, unfolding(crate::specs::Surveys::report_of))]
 pub fn finish(s: &[u16], survey: Survey) -> Result<Report, Refusal>
     ensures { result ≡ report_of s.now survey }
 {
-    let map = meetings::apart(s)?;
+    if s.len() != WORDS {
+        return Err(Refusal::Store);
+    }
     Ok(Report {
         course: Course {
             tally: survey.tally,
             at: survey.begun.at,
             ending: survey.ending,
         },
-        map,
+        map: meetings::apart(s),
     })
 }

@@ -5,12 +5,10 @@ use Rattle.rules.specs.declared.Reference.{Reference}
 use Rattle.rules.specs.declared.Event.{Event}
 use Rattle.rules.specs.declared.Event.TheVariants.{Refer, Read, Write, Instruction, Interrupt, Change, Init}
 use Rattle.records.specs.Records.{Found}
+use Rattle.rules.specs.References.{reference_of}
 use Rattle.rules.specs.Refusals.{lowest}
 use Rattle.writer.specs.Writing.{Said, Used, X, large}
 use Rattle.trips.specs.Trips.{Held}
-
-abbrev pub reference_of : ℕ → ℕ → ℕ → ℕ → ℕ → Reference
-reference_of mode space access phase va = record { mode = mode; space = space; access = access; phase = phase; va = va }
 
 -- writing: 6 in bits 31:28 and how many bytes were appended, or 5 and the refusal's number
 abbrev pub said_code : ℕ → Said → ℕ

@@ -1,4 +1,4 @@
-// An event that a record holds, as one number.
+// An event that a record holds, as one number, which is what C takes.
 
 ghost use Rattle.std.specs.Prelude.{◌≡◌, true, ◌*◌, ◌≤◌, ◌<◌};
 ghost use Rattle.rules.specs.Refusals.{lowest};

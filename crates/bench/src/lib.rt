@@ -10,7 +10,8 @@ ghost use Rattle.rules.specs.declared.Event.TheVariants.{Refer, Read, Write, Ins
 ghost use Rattle.records.specs.Records.{record_at};
 ghost use Rattle.writer.specs.Writing.{write};
 ghost use Rattle.reader.specs.Reading.{place_after};
-ghost use Rattle.bench.specs.Codes.{reference_of, coded, found_code};
+ghost use Rattle.rules.specs.References.{reference_of};
+ghost use Rattle.bench.specs.Codes.{coded, found_code};
 
 use rules::{Event, Reference};
 

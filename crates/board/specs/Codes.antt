@@ -26,9 +26,6 @@ code_of (X number) = 0x50000000 + number
 abbrev pub coded : Paper × List ℕ → ℕ × List ℕ
 coded p = (code_of p.0, p.1)
 
-abbrev pub reference_of : ℕ → ℕ → ℕ → ℕ → ℕ → Reference
-reference_of mode space access phase va = record { mode = mode; space = space; access = access; phase = phase; va = va }
-
 -- none, or one of the 48
 abbrev pub OfThe48 : Option ℕ → Type 0
 OfThe48 (Some place) = place < 48

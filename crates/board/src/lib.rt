@@ -7,7 +7,8 @@ ghost use Rattle.std.specs.Prelude.{◌≡◌, ◌≤◌};
 ghost use Rattle.rules.specs.Paper.{paper};
 ghost use Rattle.rules.specs.Step.{step};
 ghost use Rattle.rules.specs.declared.Event.TheVariants.{Refer, Read, Write, Instruction, Interrupt, Change, Init};
-ghost use Rattle.board.specs.Codes.{Small, six_bits, code_of, coded, reference_of};
+ghost use Rattle.rules.specs.References.{reference_of};
+ghost use Rattle.board.specs.Codes.{Small, six_bits, code_of, coded};
 
 use rules::{Answer, Reference, Refusal};
 
@@ -21,7 +22,7 @@ fn six_bits(served: Option<u8>) -> u32
     }
 }
 
-// An answer or a refusal as one number.
+// An answer or a refusal as one number, which is what C takes.
 fn code(a: Result<Answer, Refusal>) -> u32
     requires { Small (paper a) }
     ensures { result ≡ code_of (paper a) }

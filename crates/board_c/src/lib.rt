@@ -5,7 +5,8 @@
 ghost use Rattle.std.specs.Prelude.{◌≡◌};
 ghost use Rattle.rules.specs.Step.{step};
 ghost use Rattle.rules.specs.declared.Event.TheVariants.{Refer, Read, Write, Instruction, Interrupt, Change, Init};
-ghost use Rattle.board.specs.Codes.{coded, reference_of};
+ghost use Rattle.rules.specs.References.{reference_of};
+ghost use Rattle.board.specs.Codes.{coded};
 
 #[unsafe(no_mangle)]
 pub extern "C" fn kt11c_reference(

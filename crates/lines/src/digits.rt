@@ -1,4 +1,5 @@
-// A number as text: so many digits to a base, the highest first.
+// A number as text: so many digits to a base, the highest first. A format would print more digits of a larger number, which `line_of`
+// and a report's text cut off.
 
 ghost use Rattle.std.specs.Prelude.{◌≡◌, ◌<◌, ◌≤◌, []};
 ghost use Rattle.lines.specs.Digits.{digits as digits_of, octal as octal_of, decimal as decimal_of};
@@ -17,7 +18,7 @@ fn digits<const BASE: u64, const WIDTH: usize>(n: u64) -> [u8; WIDTH]
     text
 }
 
-// A number's last octal digits.
+// A number's last octal digits. Two instances, since only a private function may ask that the base be small.
 pub fn octal<const WIDTH: usize>(n: u64) -> [u8; WIDTH]
     ensures { result ≡ octal_of WIDTH n }
 {

@@ -12,7 +12,7 @@ mod digits;
 mod place;
 
 pub use digits::{decimal, octal};
-pub use place::put_text;
+use place::put_text;
 
 // The length of the longest line.
 pub const LONGEST: usize = 14;

@@ -5,7 +5,7 @@ ghost use Rattle.lines.specs.Lines.{placed};
 
 // Where it fits: how many bytes were written. Where it does not, none are.
 #[tactic(auto, using(crate::proofs::Output::unfit, crate::proofs::Output::copied))]
-pub fn put_text(out: &mut [u8], at: usize, text: &[u8]) -> Option<usize>
+pub(crate) fn put_text(out: &mut [u8], at: usize, text: &[u8]) -> Option<usize>
     ensures { (result, out.new) ≡ placed out.old at text.now }
 {
     let end = at.checked_add(text.len())?;

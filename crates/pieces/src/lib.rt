@@ -20,7 +20,8 @@ pub struct Held {
     pub count: usize,
 }
 
-// The state between pieces: the bytes of a begun record, how many bytes came before them, and whether the run is over.
+// The state between pieces: the bytes of a begun record, how many bytes came before them, and whether the run is over. All three are
+// plain, since C lends any of them with any others.
 #[derive(Clone, Copy)]
 pub struct Begun {
     pub held: Held,

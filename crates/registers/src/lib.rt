@@ -32,8 +32,7 @@ fn implemented(place: usize) -> u16
     ensures { result ≡ implemented_of place }
 {
     match place {
-        0..48 => 0o007777,
-        48..96 => 0o077717,
+        0..96 => if place < 48 { 0o007777 } else { 0o077717 },
         SR0 => 0o171777,
         SR3 => 0o000017,
         _ => 0o177777,

@@ -10,6 +10,10 @@ use Rattle.rules.specs.Words.{word, PDR, SR0, SR3, bit, relocates, traps_enabled
 use Rattle.rules.specs.Addresses.{in_registers}
 use Rattle.rules.specs.declared.Reference.{Reference}
 
+-- a reference by its numbers
+abbrev pub reference_of : ℕ → ℕ → ℕ → ℕ → ℕ → Reference
+reference_of mode space access phase va = record { mode = mode; space = space; access = access; phase = phase; va = va }
+
 -- rule 1: relocation off; from 160000 up the byte is VA + 600000
 abbrev pub flat_byte : ℕ → ℕ
 flat_byte va = cond (ltb va 0o160000) va (va + 0o600000)

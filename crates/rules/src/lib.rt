@@ -24,7 +24,7 @@ pub const SR2: usize = 98;
 
 pub const SR3: usize = 99;
 
-// A reference (01, "A reference"). The numbers are as the caller gives them; rules and refusals judge them.
+// A reference (01, "A reference"). The numbers are as the caller gives them, and no enum: 01 takes any, and refuses a bad one by its own.
 #[derive(Clone, Copy, Debug, PartialEq, Eq)]
 pub struct Reference {
     pub mode: u32,

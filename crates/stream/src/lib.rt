@@ -8,7 +8,8 @@ ghost use Rattle.stream.specs.Ready.{Ready, Stays, Spent, Brought};
 use std::io::Read;
 use std::{fmt, io};
 
-// The bytes of the buffer that lie ready, from a place up to an end; and whether no more come, and then there are none.
+// The bytes of the buffer that lie ready, from a place up to an end; and whether no more come, and then there are none. Places and not
+// a slice, since the buffer is lent for the next read too, and nothing is allocated, as `BufReader` would.
 #[derive(Clone, Copy)]
 pub struct Input {
     pub from: usize,

@@ -54,10 +54,11 @@ broken_text (Some p) = chars "broken: last at byte " ++ offset_text p.0 ++ chars
 broken_text None = chars "broken: nowhere\n"
 
 -- whether the last map keeps the modes apart
-abbrev pub map_text : Option Meeting → Text
-map_text None = chars "map: the modes are apart\n"
-map_text (Some m) =
+abbrev pub map_text : Result (Option Meeting) Refusal → Text
+map_text (Ok None) = chars "map: the modes are apart\n"
+map_text (Ok (Some m)) =
     chars "map: block " ++ octal 4 m.block ++ chars " is shared by " ++ page_text m.first ++ chars " and " ++ page_text m.second ++ chars "\n"
+map_text (Err r) = chars "map: refused by " ++ refusal_text r ++ chars "\n"
 
 abbrev pub report_text : Report → Text
 report_text r =

@@ -1,6 +1,6 @@
 // The lines of a report.
 
-ghost use Rattle.std.specs.Prelude.{◌+◌, ◌≤◌, length, Some};
+ghost use Rattle.std.specs.Prelude.{◌+◌, ◌≤◌, length, Some, Ok};
 ghost use Rattle.wording.specs.Wrote.{Wrote};
 ghost use Rattle.wording.specs.Texts.{end_text, kept_text, broken_text, map_text, text_of};
 
@@ -62,7 +62,7 @@ fn put_broken(out: &mut [u8], at: usize, broken: Option<(usize, Reason)>) -> usi
 
 fn put_meeting(out: &mut [u8], at: usize, m: Meeting) -> usize
     requires { at + 80 ≤ length out.old }
-    ensures { Wrote out.old at (map_text (Some m)) result out.new × (result ≤ at + 80) }
+    ensures { Wrote out.old at (map_text (Ok (Some m))) result out.new × (result ≤ at + 80) }
 {
     let a = parts::put(out, at, b"map: block ");
     let b = parts::put_block(out, a, m.block);
@@ -73,13 +73,27 @@ fn put_meeting(out: &mut [u8], at: usize, m: Meeting) -> usize
     parts::put(out, f, b"\n")
 }
 
-fn put_map(out: &mut [u8], at: usize, map: Option<Meeting>) -> usize
+fn put_parting(out: &mut [u8], at: usize, meeting: Option<Meeting>) -> usize
+    requires { at + 80 ≤ length out.old }
+    ensures { Wrote out.old at (map_text (Ok meeting)) result out.new × (result ≤ at + 80) }
+{
+    match meeting {
+        None => parts::put(out, at, b"map: the modes are apart\n"),
+        Some(m) => put_meeting(out, at, m),
+    }
+}
+
+fn put_map(out: &mut [u8], at: usize, map: Result<Option<Meeting>, Refusal>) -> usize
     requires { at + 80 ≤ length out.old }
     ensures { Wrote out.old at (map_text map) result out.new × (result ≤ at + 80) }
 {
     match map {
-        None => parts::put(out, at, b"map: the modes are apart\n"),
-        Some(m) => put_meeting(out, at, m),
+        Ok(meeting) => put_parting(out, at, meeting),
+        Err(refusal) => {
+            let a = parts::put(out, at, b"map: refused by ");
+            let b = parts::put_number(out, a, refusal);
+            parts::put(out, b, b"\n")
+        }
     }
 }
 

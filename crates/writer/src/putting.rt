@@ -31,7 +31,8 @@ fn complement(amount: i32) -> u8
     amount.rem_euclid(256) as u8
 }
 
-// The record of an event that is written: its kind, and its body.
+// The record of an event that is written: its kind, by 01's number, and its body. An enum of kinds would be no plainer: each number
+// stands once, beside its body.
 #[tactic(auto, using(crate::proofs::Fields::change_fits), unfolding(crate::specs::Bytes::record_of))]
 pub(crate) fn put(b: &mut [u8], at: usize, event: Event)
     requires { (lowest (large event) ≡ 0) × (at + length (record_of event) ≤ length b.old) }
