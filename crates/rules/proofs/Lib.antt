@@ -4,7 +4,6 @@ pub mod Numbers
 pub mod Places
 pub mod Outcomes
 pub mod Bools
-pub mod Complement
 pub mod Referring
 pub mod Masks
 pub mod Length
