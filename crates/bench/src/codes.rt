@@ -15,7 +15,7 @@ fn upper(n: u16) -> u64
     u64::from(n) * 0x100000000
 }
 
-// an amount from -128 to 127 as 0 to 255
+// an amount from -128 to 127 as 0 to 255; an event's amount may be any, and `large` is what says that it fits
 fn excess(amount: i32) -> u64
     requires { in_byte amount ≡ true }
     ensures { (result ≡ excess_of amount) × (result ≤ 255) }

@@ -17,7 +17,7 @@ pub fn pages(mode: Mode, sr3: u16) -> usize
     if mode.enables_d(sr3) { 16 } else { 8 }
 }
 
-// The same by a mode's number; eight where no mode has it.
+// The same by a mode's number, since its promise is for any; eight where no mode has it.
 #[tactic(auto, using(rules::proofs::SameNumber::same_number), unfolding(rules::specs::Modes::mode_of))]
 pub fn pages_of(sr3: u16, mode: u32) -> usize
     ensures { (result ≡ pages_of_mode sr3 mode) × (result ≤ 16) }

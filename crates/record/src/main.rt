@@ -13,7 +13,7 @@ use std::io;
 use std::io::Read;
 use stop::Stop;
 
-// Where a run stands.
+// Where a run stands. Its buffers are lent beside it: an invariant over its own would be owed between the two writes that keep it.
 #[derive(Clone, Copy)]
 struct Run {
     // Bytes of the output that are used.

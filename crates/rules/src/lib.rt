@@ -12,7 +12,8 @@ pub use modes::Mode;
 // The words of a store.
 pub const WORDS: usize = 100;
 
-// A store of the right length: 48 PARs, their PDRs in the same order, SR0 to SR3.
+// A store of the right length: 48 PARs, their PDRs in the same order, SR0 to SR3. One array of words, and a register by its index, as 01
+// has it and C lends it.
 pub type Store = [u16; WORDS];
 
 // Where the four status words stand in it.

@@ -9,7 +9,7 @@ use std::io::Read;
 use std::{fmt, io};
 
 // The bytes of the buffer that lie ready, from a place up to an end; and whether no more come, and then there are none. Places and not
-// a slice, since the buffer is lent for the next read too, and nothing is allocated, as `BufReader` would.
+// a slice, since the buffer is lent for the next read too, and nothing is allocated, as `BufReader` would; and a flag, which `more`'s clauses name.
 #[derive(Clone, Copy)]
 pub struct Input {
     pub from: usize,

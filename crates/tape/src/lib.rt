@@ -11,7 +11,7 @@ ghost use Rattle.tape.specs.Tapes.{begun_by, words_of, counted, wholly};
 use pieces::{Begun, Held, Reached};
 use std::array;
 
-// the state that the words hold
+// the state that the words hold; no `From`, here and below, since the types are another crate's
 #[tactic(auto, unfolding(crate::specs::Tapes::begun_by))]
 fn begun(words: &[u64; 11]) -> Begun
     ensures { result ≡ begun_by words.now }

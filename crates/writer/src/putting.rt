@@ -16,14 +16,14 @@ fn store(b: &mut [u8], at: usize, bytes: &[u8])
     b[at..at + bytes.len()].copy_from_slice(bytes);
 }
 
-// a number's lowest byte
+// a number's lowest byte; std has no conversion that drops bits
 fn byte(n: u32) -> u8
     ensures { result ≡ n % 256 }
 {
     (n % 256) as u8
 }
 
-// an amount as a two's complement byte
+// an amount as a two's complement byte: an event's amount may be any, and `large` is what says that it fits
 fn complement(amount: i32) -> u8
     requires { in_byte amount ≡ true }
     ensures { result ≡ complement_of 255 amount }
