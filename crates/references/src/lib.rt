@@ -27,7 +27,11 @@ struct Accepted {
 fn flag(number: u32, refusal: Refusal) -> Result<bool, Refusal>
     ensures { result ≡ flag_of number refusal }
 {
-    if 1 < number { Err(refusal) } else { Ok(number == 1) }
+    if 1 < number {
+        Err(refusal)
+    } else {
+        Ok(number == 1)
+    }
 }
 
 impl TryFrom<Reference> for Accepted {

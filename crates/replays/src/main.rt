@@ -4,7 +4,6 @@
 
 #![tactic(auto)]
 
-
 use pieces::Begun;
 use std::io;
 
@@ -184,7 +183,8 @@ fn limit(rt: &impl Print) -> io::Result<()> {
 }
 
 // 01's whole case
-const WHOLE_CASE: [u8; 29] = *b"\x03\xEE\xF4\x03\x2E\x07\x03\xCE\xF4\x03\x06\x7F\x03\x7A\xFF\x03\x01\x00\x01\x00\x00\x00\x00\x2E\xEF\x02\xCE\xF4\x03";
+const WHOLE_CASE: [u8; 29] =
+    *b"\x03\xEE\xF4\x03\x2E\x07\x03\xCE\xF4\x03\x06\x7F\x03\x7A\xFF\x03\x01\x00\x01\x00\x00\x00\x00\x2E\xEF\x02\xCE\xF4\x03";
 
 // a whole recording cut in two at a place
 fn show_cut(rt: &impl Print, recording: &[u8], at: usize) -> io::Result<()> {
