@@ -38,7 +38,7 @@ pub struct Report {
     pub map: Result<Option<Meeting>, Refusal>,
 }
 
-// What the records so far tell, with the state between two pieces.
+// What the records so far tell, with the state between two pieces. `begins` has it end well until a record stops it.
 #[derive(Clone, Copy)]
 pub struct Survey {
     pub begun: Begun,

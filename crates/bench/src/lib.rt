@@ -15,7 +15,7 @@ ghost use Rattle.bench.specs.Codes.{coded, found_code};
 
 use rules::{Event, Reference};
 
-// Appends an event's record.
+// Appends an event's record; the answer is one number, which is what C takes.
 fn record(buffer: &mut [u8], used: usize, event: Event) -> u32
     ensures { (result, buffer.new) ≡ coded used (write buffer.old used event) }
 {

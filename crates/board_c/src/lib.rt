@@ -1,4 +1,5 @@
-// The unit's operations as C links them: each export calls `board`, by the same clauses. include/kt11c.h says them for C.
+// The unit's operations as C links them: each export calls `board`, by the same clauses. A crate of its own, since what C links
+// is a static library. include/kt11c.h says them for C.
 
 #![tactic(auto)]
 

@@ -11,8 +11,8 @@ fn digits<const BASE: u64, const WIDTH: usize>(n: u64) -> [u8; WIDTH]
 {
     let mut text = [b'0'; WIDTH];
     let mut left = n;
-    for i in 0..WIDTH {
-        text[WIDTH - 1 - i] = b'0' + (left % BASE) as u8;
+    for i in (0..WIDTH).rev() {
+        text[i] = b'0' + (left % BASE) as u8;
         left /= BASE;
     }
     text

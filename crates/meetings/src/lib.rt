@@ -84,6 +84,7 @@ impl Pass {
             return;
         }
         let blocks = allowed(page.pdr);
+        // by the two ends, from which the invariant counts the blocks that are left
         for b in blocks.start..blocks.end {
             self.sight(page.place, (page.par % 4096 + b) % 4096);
         }

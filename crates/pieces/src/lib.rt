@@ -171,7 +171,8 @@ pub fn inside<'a>(begun: &'a Begun, piece: &'a [u8], last: bool) -> Seen<'a>
     }
 }
 
-// How far a piece was taken, where its records were gone through up to a place: the place moves on, no further than the limit.
+// How far a piece was taken, where its records were gone through up to a place: the place moves on, no further than the limit. A piece
+// and whether it is the last come as two, here and above, as C gives them.
 #[tactic(auto, unfolding(crate::specs::Begun::landed, crate::specs::Held::held_of))]
 pub fn land(begun: Begun, piece: &[u8], last: bool, at: usize, how: How) -> Reached
     ensures { result ≡ landed begun piece.now last at how }

@@ -12,8 +12,9 @@ use script::Problem;
 use std::io;
 use std::io::Read;
 use stop::Stop;
+use stream::Failed;
 
-// Where a run stands. Its buffers are lent beside it: an invariant over its own would be owed between the two writes that keep it.
+// Where a run stands. Its buffers are lent beside it, for nothing is allocated: an invariant over its own would be owed between the two writes that keep it.
 #[derive(Clone, Copy)]
 struct Run {
     // Bytes of the output that are used.
@@ -38,7 +39,8 @@ impl Run {
     {
         let used = self.used;
         self.used = 0;
-        rt.write_all(&out[..used]).map_err(Stop::Output)
+        rt.write_all(&out[..used]).map_err(Failed::Output)?;
+        Ok(())
     }
 
     // every line that has its line feed; a full output is written, and the line taken again; the place of the first byte that is
@@ -79,7 +81,7 @@ impl Run {
     {
         let mut have = 0;
         for _ in 0..u64::MAX {
-            let count = read_at(input, text, have).map_err(Stop::Input)?;
+            let count = read_at(input, text, have).map_err(Failed::Input)?;
             if count == 0 {
                 text[have] = b'\n';
                 let all = have + 1;

@@ -23,7 +23,8 @@ struct Stepped {
     written: usize,
 }
 
-// an event, and its line where the line fits: how many bytes were written
+// an event, and its line where the line fits: how many bytes were written. An output and the bytes written in it go along as two, here
+// and below, since a clause names the output before and after.
 fn put_event(s: &mut Store, e: Event, out: &mut [u8], written: usize) -> Option<usize>
     ensures { (s.new ≡ (step s.old e).1) × ((result, out.new) ≡ placed out.old written (line_of (step s.old e).0)) }
 {
@@ -31,7 +32,7 @@ fn put_event(s: &mut Store, e: Event, out: &mut [u8], written: usize) -> Option<
     lines::put(out, written, answer)
 }
 
-// the store is kept aside where there is not room for any line: a copy for each event would be slower
+// the store is kept aside where the longest line has no room: a copy at each event takes longer
 fn keep(s: &Store, spare: &mut Store, room: usize)
     ensures { spare.new ≡ cond (ltb room longest) s.now spare.old }
 {

@@ -32,6 +32,7 @@ fn implemented(place: usize) -> u16
     ensures { result ≡ implemented_of place }
 {
     match place {
+        // one test of a page's place, which needs no branch of its own
         0..96 => if place < 48 { 0o007777 } else { 0o077717 },
         SR0 => 0o171777,
         SR3 => 0o000017,

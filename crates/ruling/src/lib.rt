@@ -68,7 +68,7 @@ const KEYS: [Right; 8] = [
 pub fn right_of(pdr: u16) -> Right
     ensures { result ≡ right_of (key_of pdr) }
 {
-    let key = (pdr % 8) as usize;
+    let key = usize::from(pdr % 8);
     KEYS[key]
 }
 

@@ -39,7 +39,7 @@ fn write_byte(out: &mut [u8], used: usize, b: u8) -> Result<usize, Problem>
 }
 
 // Appends what a line says, without its line feed, to the bytes used so far, and gives the new number of bytes used: the same for a
-// line without a word.
+// line without a word. The output and its bytes used come as two, as `writer` takes them.
 #[tactic(auto, unfolding(crate::specs::Recording::record_line))]
 pub fn record_line(line: &[u8], out: &mut [u8], used: usize) -> Result<usize, Problem>
     ensures { (result, out.new) ≡ record_line line.now out.old used }

@@ -1,4 +1,5 @@
-// The replay of a recording as C links it: each export calls `tape`, by the same clauses. include/kt11c.h says them for C.
+// The replay of a recording as C links it: each export calls `tape`, by the same clauses. A crate of its own, since what C links
+// is a static library. include/kt11c.h says them for C.
 
 #![tactic(auto)]
 

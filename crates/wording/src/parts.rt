@@ -59,7 +59,7 @@ pub(crate) fn put_reason(out: &mut [u8], at: usize, reason: Reason) -> usize
     }
 }
 
-// a third of the 48 places, which is no mode's number: an enum would only name it twice
+// a third of the 48 places, and below half of one, which are no numbers of 01: an enum would only name each twice
 fn put_mode(out: &mut [u8], at: usize, mode: u8) -> usize
     requires { at + 10 ≤ length out.old }
     ensures { Wrote out.old at (mode_text mode) result out.new × (result ≤ at + 10) }

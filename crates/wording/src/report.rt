@@ -1,4 +1,4 @@
-// The lines of a report.
+// The lines of a report. Each asks for the room of a longest line, since an output is a lent slice and has no type of its own.
 
 ghost use Rattle.std.specs.Prelude.{◌+◌, ◌≤◌, length, Some, Ok};
 ghost use Rattle.wording.specs.Wrote.{Wrote};

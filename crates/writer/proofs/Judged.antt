@@ -14,7 +14,7 @@ use Rattle.rules.specs.declared.Refusal.{Refusal}
 use Rattle.rules.specs.declared.Event.{Event}
 use Rattle.rules.specs.declared.Event.TheVariants.{Refer, Read, Write, Instruction, Interrupt, Change, Init}
 use Rattle.writer.specs.Bytes.{record_of}
-use Rattle.writer.proofs.Fields.{passed, change_fits}
+use Rattle.writer.proofs.Fields.{passed}
 use Rattle.writer.proofs.Said.{no_zero}
 use Rattle.writer.specs.Writing.{Said, Used, X, in_byte, large, short, unwritten, answer, laid, write}
 
@@ -70,9 +70,6 @@ unfolding unwritten
 fitting room used e h =
     let left = short room used (length (record_of e)) in
     roomy room used (length (record_of e)) (sym (passing (large e) left (fields-positive e) (not_large room used e h)) ∙ h)
-
-pub amount-fits : (room used register : ℕ) (amount : ℤ) → unwritten room used (Change register amount) ≡ 0 → in_byte amount ≡ true
-amount-fits room used register amount h = (change_fits register amount (not_large room used (Change register amount) h)).1
 
 -- an answer is a number of bytes used, or a refusal
 is_used : Said → Bool

@@ -11,7 +11,7 @@ use rules::{Event, Reference, Refusal};
 fn in_byte(amount: i32) -> bool
     ensures { result ≡ in_byte_of amount }
 {
-    (-128 <= amount) & (amount <= 127)
+    matches!(amount, -128..=127)
 }
 
 fn reference_fits(r: Reference) -> Result<(), Refusal>

@@ -16,11 +16,12 @@ fn store(b: &mut [u8], at: usize, bytes: &[u8])
     b[at..at + bytes.len()].copy_from_slice(bytes);
 }
 
-// a number's lowest byte; std has no conversion that drops bits
+// a number's lowest byte
 fn byte(n: u32) -> u8
     ensures { result ≡ n % 256 }
 {
-    (n % 256) as u8
+    let [low, ..] = n.to_le_bytes();
+    low
 }
 
 // an amount as a two's complement byte: an event's amount may be any, and `large` is what says that it fits

@@ -8,4 +8,4 @@ use Rattle.ruling.proofs.right_of.Goals as goal
 
 pub returns : goal.returns
 unfolding right_of
-returns c = entry right_of _ 8 refl (c.args.pdr % 8) _ (omega arith)
+returns c = rw c.from-key.ensures (entry right_of _ 8 refl (c.args.pdr % 8) _ (omega arith))
