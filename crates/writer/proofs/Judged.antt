@@ -6,7 +6,6 @@ use Prim.Native.Nat.{ℕ, zero, suc, ◌+◌, ◌≤◌}
 use native.Mathlib.Omega.{arith}
 use lib.ListN.{length}
 use lib.Dec.{ltb, eqb}
-use lib.IntN.{ℤ}
 use borrow.Author.Tests.{le-ltb, ltb-false, eqb-true}
 use Rattle.rules.specs.Refusals.{Conditions, lowest}
 use Rattle.rules.specs.Paper.{number}
@@ -16,7 +15,7 @@ use Rattle.rules.specs.declared.Event.TheVariants.{Refer, Read, Write, Instructi
 use Rattle.writer.specs.Bytes.{record_of}
 use Rattle.writer.proofs.Fields.{passed}
 use Rattle.writer.proofs.Said.{no_zero}
-use Rattle.writer.specs.Writing.{Said, Used, X, in_byte, large, short, unwritten, answer, laid, write}
+use Rattle.writer.specs.Writing.{Said, Used, X, large, short, unwritten, answer, laid, write}
 
 -- no condition of an event's fields has the number 0, which stands for none
 abbrev positive : Conditions → Bool

@@ -1,9 +1,9 @@
 // Whether an event's record is written: its fields against their bytes, by 01's numbers, and then 14, in that order.
 
-ghost use Rattle.std.specs.Prelude.{◌≡◌, ◌+◌, length, ltb};
+ghost use Rattle.std.specs.Prelude.{◌≡◌, ◌+◌, length};
 ghost use Rattle.rules.specs.Refusals.{lowest};
 ghost use Rattle.writer.specs.Bytes.{record_of};
-ghost use Rattle.writer.specs.Writing.{said, refused_by, in_byte as in_byte_of, large_reference, large_address, large_change, large, short, unwritten, answer};
+ghost use Rattle.writer.specs.Writing.{said, refused_by, in_byte as in_byte_of, large_reference, large_address, large_change, short, unwritten, answer};
 
 use rules::{Event, Reference, Refusal};
 
@@ -51,43 +51,6 @@ fn change_fits(register: u32, amount: i32) -> Result<(), Refusal>
     Ok(())
 }
 
-// No field is too large for its bytes; VA, value and vector can't be.
-fn fields_fit(event: Event) -> Result<(), Refusal>
-    ensures { refused_by result ≡ lowest (large event) }
-{
-    match event {
-        Event::Refer(r) => reference_fits(r),
-        Event::Read { address } => address_fits(address),
-        Event::Write { address, value: _ } => address_fits(address),
-        Event::Change { register, amount } => change_fits(register, amount),
-        Event::Instruction { va: _ } => Ok(()),
-        Event::Interrupt { vector: _ } => Ok(()),
-        Event::Init => Ok(()),
-    }
-}
-
-// The number of bytes of an event's record.
-#[tactic(auto, unfolding(crate::specs::Bytes::record_of))]
-fn length_of(event: Event) -> usize
-    ensures { result ≡ length (record_of event) }
-{
-    match event {
-        Event::Refer(_) => 7,
-        Event::Read { address: _ } => 4,
-        Event::Write {
-            address: _,
-            value: _,
-        } => 6,
-        Event::Instruction { va: _ } => 3,
-        Event::Interrupt { vector: _ } => 3,
-        Event::Change {
-            register: _,
-            amount: _,
-        } => 3,
-        Event::Init => 1,
-    }
-}
-
 // The bytes used once so many more are written, if they fit in the room.
 fn used_after(room: usize, used: usize, bytes: usize) -> Result<usize, Refusal>
     ensures { said result ≡ answer (lowest (short room used bytes)) (used + bytes) }
@@ -98,11 +61,31 @@ fn used_after(room: usize, used: usize, bytes: usize) -> Result<usize, Refusal>
     }
 }
 
-// The answer of writing into a buffer of so much room.
-#[tactic(auto, using(crate::proofs::Judged::fields_refuse, crate::proofs::Judged::room_decides))]
+// The answer of writing into a buffer of so much room. Each event has its room's test beside its fields', since one test behind
+// all of them takes longer.
+#[tactic(auto, using(crate::proofs::Judged::fields_refuse, crate::proofs::Judged::room_decides), unfolding(crate::specs::Bytes::record_of, crate::specs::Writing::unwritten))]
 pub(crate) fn judge(room: usize, used: usize, event: Event) -> Result<usize, Refusal>
     ensures { said result ≡ answer (unwritten room used event) (used + length (record_of event)) }
 {
-    fields_fit(event)?;
-    used_after(room, used, length_of(event))
+    match event {
+        Event::Refer(r) => {
+            reference_fits(r)?;
+            used_after(room, used, 7)
+        }
+        Event::Read { address } => {
+            address_fits(address)?;
+            used_after(room, used, 4)
+        }
+        Event::Write { address, value: _ } => {
+            address_fits(address)?;
+            used_after(room, used, 6)
+        }
+        Event::Instruction { va: _ } => used_after(room, used, 3),
+        Event::Interrupt { vector: _ } => used_after(room, used, 3),
+        Event::Change { register, amount } => {
+            change_fits(register, amount)?;
+            used_after(room, used, 3)
+        }
+        Event::Init => used_after(room, used, 1),
+    }
 }

@@ -13,6 +13,6 @@ loop-event-preserved c =
     record {
       inside = (trail_advances _ _ _ _ _ _ seen).1;
       left =
-          rw (c.after-tally.ensures, c.widens-verdict.ensures, stepped)
+          rw (c.count.ensures, c.widens-verdict.ensures, stepped)
           (sym (trail_event _ _ _ _ _ _ _ _ _ seen) ∙ c.loop-event.invariant.left);
     }
