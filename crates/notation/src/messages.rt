@@ -1,9 +1,14 @@
 // What was expected, as a message says it (docs/NOTATION.md, "A bad line").
 
+ghost use Rattle.std.specs.Prelude.{Some};
+ghost use Rattle.notation.specs.Messages.{field_message, message};
+
 use crate::{Expected, Field};
 use std::fmt;
 
 impl fmt::Display for Field {
+    ghost output = { λ f. Some (field_message f) };
+
     fn fmt<W: fmt::Write>(&self, f: &mut fmt::Formatter<W>) -> fmt::Result {
         f.write_str(match self {
             Field::Mode => "a mode: kernel, supervisor, illegal, user, or an octal number to 377",
@@ -21,6 +26,8 @@ impl fmt::Display for Field {
 }
 
 impl fmt::Display for Expected {
+    ghost output = { λ e. Some (message e) };
+
     fn fmt<W: fmt::Write>(&self, f: &mut fmt::Formatter<W>) -> fmt::Result {
         match self {
             Expected::Name => f.write_str(
